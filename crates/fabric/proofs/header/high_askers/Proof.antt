@@ -1,0 +1,12 @@
+use borrow.Author.Needs.{needs}
+use Rattle.fabric.proofs.header.high_askers.Statement.{statement}
+use Rattle.fabric.proofs.header.high_askers.Tie as tie
+
+returns : tie.Need-returns
+returns c = ?
+
+pub high-askers-spec : {M : Type 1} → statement M
+high-askers-spec =
+    tie.close
+    (tie.spec (λ c. search needs) (λ c κs. search needs) (λ c. search needs) (λ c κs. search needs) (λ c. search needs) (λ c κs. search needs)
+    (λ c. search needs) (λ c κs. search needs) (λ c κs. search needs) returns)

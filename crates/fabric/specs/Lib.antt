@@ -1,0 +1,7 @@
+pub mod Four
+pub mod Header
+pub mod Turn
+pub mod State
+pub mod Route
+pub mod Cycle
+pub mod Record

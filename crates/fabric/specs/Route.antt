@@ -1,0 +1,70 @@
+-- Rules 3 and 4: whether a routing happens, what it decides for each output, and the report.
+use mathlib.Core.Bool.{Bool, true, false, cond, _&&_}
+use mathlib.Core.List.{List, [], _∷_}
+use Prim.Native.Nat.{ℕ, _-_}
+use lib.ListN.{getD}
+use Rattle.fabric.specs.declared.state.State.{State}
+use Rattle.fabric.specs.declared.route.Outcome.{Outcome}
+use Rattle.fabric.specs.declared.route.Outcome.the-variants.{Quiet, Won}
+use Rattle.fabric.specs.declared.route.Outcomes.{Outcomes}
+use Rattle.fabric.specs.declared.route.Report.{Report}
+use Rattle.fabric.specs.declared.route.Report.the-variants.{NoRouting, Routing}
+use Rattle.fabric.specs.Four.{some, count}
+use Rattle.fabric.specs.Header.{asker, highAsker, someActive}
+use Rattle.fabric.specs.Turn.{inTurn}
+use Rattle.fabric.specs.State.{input, holderAt}
+
+-- output o is asked for by somebody; in the high class
+abbrev pub asked : List ℕ → ℕ → Bool
+asked headers o = some (asker headers o)
+
+abbrev pub askedHigh : List ℕ → ℕ → Bool
+askedHigh headers o = some (highAsker headers o)
+
+-- input i asks for output o and is not set aside: where one of o's askers is in the high class, only such askers remain
+abbrev pub remains : List ℕ → ℕ → ℕ → Bool
+remains headers o i = cond (askedHigh headers o) (highAsker headers o i) (asker headers o i)
+
+-- rule 4: the new holder of an output that is asked for, from the old holder h
+abbrev pub winner : List ℕ → ℕ → ℕ → ℕ
+winner headers o h = inTurn (remains headers o) h
+
+-- how many askers are turned away, low ones counted: all but the winner
+abbrev pub turnedAway : List ℕ → ℕ → ℕ
+turnedAway headers o = count (asker headers o) - 1
+
+-- what a routing decides for output o with the old holder h
+unfoldable pub decided : List ℕ → ℕ → ℕ → Outcome
+decided headers o h = cond (asked headers o) (Won (input (winner headers o h)) (turnedAway headers o)) Quiet
+
+abbrev pub outcomes : State → List ℕ → Outcomes
+outcomes s headers = record {
+  output0 = decided headers 0 (holderAt s 0);
+  output1 = decided headers 1 (holderAt s 1);
+  output2 = decided headers 2 (holderAt s 2);
+  output3 = decided headers 3 (holderAt s 3);
+}
+
+-- rule 3: the phase is waiting and some header is active
+abbrev pub routes : State → List ℕ → Bool
+routes s headers = s .waiting && someActive headers
+
+unfoldable pub reported : State → List ℕ → Report
+reported s headers = cond (routes s headers) (Routing (outcomes s headers)) NoRouting
+
+-- a report's case for output o: quiet where no routing happened
+abbrev pub outcomesIn : Report → Outcomes
+outcomesIn NoRouting = record { output0 = Quiet; output1 = Quiet; output2 = Quiet; output3 = Quiet }
+outcomesIn (Routing r) = r
+
+abbrev pub outcomeIn : Report → ℕ → Outcome
+outcomeIn r o = getD (outcomesIn r .output0 ∷ outcomesIn r .output1 ∷ outcomesIn r .output2 ∷ outcomesIn r .output3 ∷ []) o Quiet
+
+-- a routing happened; it gave an output to a winner
+abbrev pub routed : Report → Bool
+routed NoRouting = false
+routed (Routing r) = true
+
+abbrev pub won : Outcome → Bool
+won Quiet = false
+won (Won w n) = true

@@ -1,0 +1,66 @@
+// The state of the machine, reset, and the refusals of a state that is handed in.
+ghost use mathlib.Core.Path.{_≡_};
+ghost use Rattle.fabric.specs.State.{resetState, resetRows, holderAbove, openWhileWaiting, heldTwice, stateRefusal};
+use super::port::Input;
+
+pub struct State {
+    pub waiting: bool,
+    pub shut: [bool; 4],
+    pub holders: [Input; 4],
+}
+
+pub fn reset_state() -> State
+    ensures { λ r. ⌜ r ≡ resetState ⌝ }
+{
+    State {
+        waiting: false,
+        shut: [true; 4],
+        holders: [Input(0), Input(0), Input(0), Input(0)],
+    }
+}
+
+pub fn reset_rows() -> [[u8; 4]; 4]
+    ensures { λ r. ⌜ r ≡ resetRows ⌝ }
+{
+    let zeros = [0u8; 4];
+    [zeros, zeros, zeros, zeros]
+}
+
+fn holder_above(s: State) -> bool
+    ensures { λ r. ⌜ r ≡ holderAbove s ⌝ }
+{
+    (3 < s.holders[0].0) | (3 < s.holders[1].0) | (3 < s.holders[2].0) | (3 < s.holders[3].0)
+}
+
+fn open_while_waiting(s: State) -> bool
+    ensures { λ r. ⌜ r ≡ openWhileWaiting s ⌝ }
+{
+    s.waiting & (!s.shut[0] | !s.shut[1] | !s.shut[2] | !s.shut[3])
+}
+
+fn held_twice(s: State) -> bool
+    ensures { λ r. ⌜ r ≡ heldTwice s ⌝ }
+{
+    (!s.shut[0] & !s.shut[1] & (s.holders[0].0 == s.holders[1].0))
+        | (!s.shut[0] & !s.shut[2] & (s.holders[0].0 == s.holders[2].0))
+        | (!s.shut[0] & !s.shut[3] & (s.holders[0].0 == s.holders[3].0))
+        | (!s.shut[1] & !s.shut[2] & (s.holders[1].0 == s.holders[2].0))
+        | (!s.shut[1] & !s.shut[3] & (s.holders[1].0 == s.holders[3].0))
+        | (!s.shut[2] & !s.shut[3] & (s.holders[2].0 == s.holders[3].0))
+}
+
+// 14, 7 or 8, the first that applies; 0 where the state is accepted.
+pub fn refusal(s: State) -> u8
+    ensures { λ r. ⌜ r ≡ stateRefusal s ⌝ }
+{
+    if holder_above(s) {
+        return 14;
+    }
+    if open_while_waiting(s) {
+        return 7;
+    }
+    if held_twice(s) {
+        return 8;
+    }
+    0
+}
