@@ -1,0 +1,6 @@
+pub mod Tests
+pub mod Masks
+pub mod Turns
+pub mod Decisions
+pub mod States
+pub mod Cycles

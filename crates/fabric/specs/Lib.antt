@@ -5,3 +5,4 @@ pub mod State
 pub mod Route
 pub mod Cycle
 pub mod Record
+pub mod Saved

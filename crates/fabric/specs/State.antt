@@ -1,7 +1,7 @@
 -- The state at a cycle's start, reset, and the refusals of a state that is handed in.
 use mathlib.Core.Bool.{Bool, true, false, not, _&&_, _||_}
 use mathlib.Core.List.{List, [], _∷_}
-use Prim.Native.Nat.{ℕ}
+use Prim.Native.Nat.{ℕ, _<_}
 use lib.Dec.{eqb, ltb}
 use lib.ListN.{getD}
 use Rattle.fabric.specs.declared.port.Input.{Input}
@@ -20,6 +20,13 @@ holderOf s o = getD (s .holders) o (input 0)
 
 abbrev pub holderAt : State → ℕ → ℕ
 holderAt s o = holderOf s o .0
+
+-- each holder is an input's number
+pub record Held (s : State) : Type 0 where
+  pub held0 : holderAt s 0 < 4
+  pub held1 : holderAt s 1 < 4
+  pub held2 : holderAt s 2 < 4
+  pub held3 : holderAt s 3 < 4
 
 -- The bytes of all ports are kept as rows of four beside the state: first latches, second latches, switch bytes, head bytes.
 abbrev pub firstRow : List (List ℕ) → List ℕ

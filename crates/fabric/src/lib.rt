@@ -8,6 +8,7 @@ mod header;
 mod port;
 mod record;
 mod route;
+mod saved;
 mod state;
 mod turn;
 
@@ -26,6 +27,9 @@ pub use record::spare_set;
 pub use route::Outcome;
 pub use route::Outcomes;
 pub use route::Report;
+pub use saved::TakenUp;
+pub use saved::save;
+pub use saved::take_up;
 pub use state::State;
 pub use state::refusal;
 pub use state::reset_rows;

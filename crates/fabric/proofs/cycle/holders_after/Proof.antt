@@ -3,7 +3,7 @@ use Rattle.fabric.proofs.cycle.holders_after.Statement.{statement}
 use Rattle.fabric.proofs.cycle.holders_after.Tie as tie
 
 returns : tie.Need-returns
-returns c = ?
+returns c = cc
 
 pub holders-after-spec : {M : Type 1} → statement M
 holders-after-spec =

@@ -3,7 +3,7 @@ use Rattle.fabric.proofs.cycle.shut_flags_after.Statement.{statement}
 use Rattle.fabric.proofs.cycle.shut_flags_after.Tie as tie
 
 returns : tie.Need-returns
-returns c = ?
+returns c = cc
 
 pub shut-flags-after-spec : {M : Type 1} → statement M
 shut-flags-after-spec =

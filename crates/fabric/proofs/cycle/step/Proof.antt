@@ -1,9 +1,13 @@
+use Rattle.fabric.specs.Cycle.{machine}
+use Rattle.fabric.proofs.Cycles.{step-made}
 use borrow.Author.Needs.{needs}
 use Rattle.fabric.proofs.cycle.step.Statement.{statement}
 use Rattle.fabric.proofs.cycle.step.Tie as tie
 
 returns : tie.Need-returns
-returns c = ?
+returns c =
+    let a = c .before .before .before .before .before .before .before .before .before .before .before .before .args in
+    step-made (machine (a .s) (a .t2)) (a .i) (c .before .before .before .before .before .before .before .rows-after .result) (search needs) (search needs) (search needs) (search needs)
 
 pub step-spec : {M : Type 1} → statement M
 step-spec =

@@ -3,7 +3,7 @@ use Rattle.fabric.proofs.header.askers.Statement.{statement}
 use Rattle.fabric.proofs.header.askers.Tie as tie
 
 returns : tie.Need-returns
-returns c = ?
+returns c = (cc, c .mask .ensures .1)
 
 pub askers-spec : {M : Type 1} → statement M
 askers-spec =

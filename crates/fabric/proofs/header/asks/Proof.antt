@@ -3,7 +3,7 @@ use Rattle.fabric.proofs.header.asks.Statement.{statement}
 use Rattle.fabric.proofs.header.asks.Tie as tie
 
 returns : tie.Need-returns
-returns c = ?
+returns c = cc
 
 pub asks-spec : {M : Type 1} → statement M
 asks-spec = tie.close

@@ -3,7 +3,7 @@ use Rattle.fabric.proofs.header.some_active.Statement.{statement}
 use Rattle.fabric.proofs.header.some_active.Tie as tie
 
 returns : tie.Need-returns
-returns c = ?
+returns c = cc
 
 pub some-active-spec : {M : Type 1} → statement M
 some-active-spec =

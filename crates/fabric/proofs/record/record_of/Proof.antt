@@ -3,7 +3,7 @@ use Rattle.fabric.proofs.record.record_of.Statement.{statement}
 use Rattle.fabric.proofs.record.record_of.Tie as tie
 
 returns : tie.Need-returns
-returns c = ?
+returns c = cc
 
 pub record-of-spec : {M : Type 1} → statement M
 record-of-spec =

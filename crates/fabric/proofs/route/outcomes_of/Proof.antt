@@ -3,7 +3,7 @@ use Rattle.fabric.proofs.route.outcomes_of.Statement.{statement}
 use Rattle.fabric.proofs.route.outcomes_of.Tie as tie
 
 returns : tie.Need-returns
-returns c = ?
+returns c = cc
 
 pub outcomes-of-spec : {M : Type 1} → statement M
 outcomes-of-spec =

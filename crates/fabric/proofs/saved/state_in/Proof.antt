@@ -1,0 +1,10 @@
+use borrow.Author.Needs.{needs}
+use Rattle.fabric.proofs.saved.state_in.Statement.{statement}
+use Rattle.fabric.proofs.saved.state_in.Tie as tie
+
+returns : tie.Need-returns
+returns c = ?
+
+pub state-in-spec : {M : Type 1} → statement M
+state-in-spec = tie.close
+    (tie.spec (λ c. search needs) (λ c. search needs) (λ c. search needs) (λ c. search needs) returns)
