@@ -3,9 +3,7 @@ use mathlib.Core.Bool.{Bool, true, false, cond, _&&_}
 use mathlib.Core.Path.{_≡_, refl, sym, ap, _∙_}
 use mathlib.Core.List.{List, [], _∷_}
 use Prim.Native.Nat.{ℕ}
-use lib.Dec.{eqb}
 use lib.ListN.{getD}
-use borrow.Author.Tests.{eq-eqb, ne-eqb}
 use Rattle.fabric.specs.declared.state.State.{State}
 use Rattle.fabric.specs.declared.route.Outcomes.{Outcomes}
 use Rattle.fabric.specs.declared.route.Report.{Report}
@@ -14,9 +12,8 @@ use Rattle.fabric.specs.declared.cycle.Inputs.{Inputs}
 use Rattle.fabric.specs.declared.cycle.Cycled.{Cycled}
 use Rattle.fabric.specs.Four.{four}
 use Rattle.fabric.specs.Header.{someActive}
-use Rattle.fabric.specs.State.{stateRefusal}
 use Rattle.fabric.specs.Route.{outcomes, reported}
-use Rattle.fabric.specs.Cycle.{Machine, machine, shown, acked, report, stateAfter, rowsAfter, stepOf, refusedCycle, cycleOf}
+use Rattle.fabric.specs.Cycle.{Machine, machine, shown, acked, report, stateAfter, rowsAfter, stepOf}
 
 -- rows of four are equal where their parts are
 pub row-of : {A : Type 0} {a a' b b' c c' d d' : A} → a ≡ a' → b ≡ b' → c ≡ c' → d ≡ d' → (a ∷ b ∷ c ∷ d ∷ []) ≡ (a' ∷ b' ∷ c' ∷ d' ∷ [])
@@ -49,11 +46,3 @@ pub step-made : (m : Machine) (i : Inputs) {r : Report} {acks : List Bool} {s : 
     → r ≡ report m → acks ≡ four (acked (m .state) (i .acks)) → s ≡ stateAfter (m .state) (i .frame) r → rows ≡ rowsAfter (m .state) (m .rows) (i .bytes)
     → made r acks (shown m) s rows ≡ stepOf m i
 step-made m i rows p q t u = cc
-
--- a single cycle is refused, or it is the rules' step
-module _ (m : Machine) (i : Inputs) {n : ℕ} (number : n ≡ stateRefusal (m .state)) where
-  pub cycle-refused : (n ≡ 0 → ⊥) → refusedCycle n m ≡ cycleOf m i
-  cycle-refused h = rw (number, ne-eqb _ _ (λ z. h (number ∙ z)))
-
-  pub cycle-done : n ≡ 0 → stepOf m i ≡ cycleOf m i
-  cycle-done h = rw (eq-eqb _ _ (sym number ∙ h))

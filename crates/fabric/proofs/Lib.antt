@@ -4,3 +4,5 @@ pub mod Turns
 pub mod Decisions
 pub mod States
 pub mod Cycles
+pub mod Calls
+pub mod Keeps

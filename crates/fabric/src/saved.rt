@@ -7,7 +7,7 @@ ghost use lib.Seq.{sets};
 ghost use Rattle.fabric.specs.Four.{bit};
 ghost use Rattle.fabric.specs.Cycle.{machine};
 ghost use Rattle.fabric.specs.State.{Held};
-ghost use Rattle.fabric.specs.Saved.{wordOf, rowBytes, savedBytes, saveRefusal, saveWrites, stateIn, rowIn, notTakenUp, takeUpOf};
+ghost use Rattle.fabric.specs.Saved.{wordOf, rowBytes, savedBytes, saveRefusal, saveWrites, wordIn, stateIn, rowIn, takeUpRefusal, takenUp, notTakenUp, takeUpOf};
 use super::port::Input;
 use super::state;
 use super::state::State;
@@ -148,22 +148,31 @@ fn not_taken_up(number: u8) -> TakenUp
     }
 }
 
-// Takes a state up from 18 bytes; a refusal gives the reset state.
-pub fn take_up(b: &[u8]) -> TakenUp
-    ensures { λ r. ⌜ r ≡ takeUpOf (now (b .entry)) ⌝ }
+fn word_in(b: &[u8]) -> u16
+    requires { ⌜ 1 < length (now b) ⌝ }
+    ensures { λ r. ⌜ r ≡ wordIn (now (b .entry)) ⌝ }
+{
+    256 * wide(b[0]) + wide(b[1])
+}
+
+fn take_up_refusal(b: &[u8]) -> u8
+    ensures { λ r. ⌜ r ≡ takeUpRefusal (now (b .entry)) ⌝ }
 {
     if b.len() != SAVED_LEN {
-        return not_taken_up(5);
+        return 5;
     }
-    let w = 256 * wide(b[0]) + wide(b[1]);
+    let w = word_in(b);
     if w % 8 != 0 {
-        return not_taken_up(6);
+        return 6;
     }
-    let state = state_in(w);
-    let number = state::refusal(state);
-    if number != 0 {
-        return not_taken_up(number);
-    }
+    state::refusal(state_in(w))
+}
+
+fn taken_up(b: &[u8]) -> TakenUp
+    requires { ⌜ 17 < length (now b) ⌝ }
+    ensures { λ r. ⌜ r ≡ takenUp (now (b .entry)) ⌝ }
+{
+    let state = state_in(word_in(b));
     let first = row_in(b, 2);
     let second = row_in(b, 6);
     let switched = row_in(b, 10);
@@ -176,4 +185,15 @@ pub fn take_up(b: &[u8]) -> TakenUp
         switched,
         heads,
     }
+}
+
+// Takes a state up from 18 bytes; a refusal gives the reset state.
+pub fn take_up(b: &[u8]) -> TakenUp
+    ensures { λ r. ⌜ r ≡ takeUpOf (now (b .entry)) ⌝ }
+{
+    let number = take_up_refusal(b);
+    if number != 0 {
+        return not_taken_up(number);
+    }
+    taken_up(b)
 }

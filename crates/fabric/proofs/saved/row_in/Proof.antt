@@ -1,9 +1,10 @@
+use native.Mathlib.Nat.{add-zero}
 use borrow.Author.Needs.{needs}
 use Rattle.fabric.proofs.saved.row_in.Statement.{statement}
 use Rattle.fabric.proofs.saved.row_in.Tie as tie
 
 returns : tie.Need-returns
-returns c = ?
+returns c = simp add-zero
 
 pub row-in-spec : {M : Type 1} → statement M
 row-in-spec =

@@ -1,9 +1,12 @@
+use mathlib.Core.Path.{refl}
+use Rattle.fabric.specs.Saved.{stateIn}
 use borrow.Author.Needs.{needs}
 use Rattle.fabric.proofs.saved.state_in.Statement.{statement}
 use Rattle.fabric.proofs.saved.state_in.Tie as tie
 
 returns : tie.Need-returns
-returns c = ?
+unfolding stateIn
+returns c = refl
 
 pub state-in-spec : {M : Type 1} → statement M
 state-in-spec = tie.close

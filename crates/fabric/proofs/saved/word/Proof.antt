@@ -1,9 +1,13 @@
+use native.Mathlib.Omega.{arith}
+use Rattle.fabric.specs.Saved.{wordOf}
 use borrow.Author.Needs.{needs}
 use Rattle.fabric.proofs.saved.word.Statement.{statement}
 use Rattle.fabric.proofs.saved.word.Tie as tie
 
 returns : tie.Need-returns
-returns c = ?
+unfolding wordOf
+returns c =
+    omega (arith, c .before .before .before .before .before .before .before .before .flag .ensures .0, c .before .before .before .before .before .before .flag2 .ensures .0, c .before .before .before .before .flag3 .ensures .0, c .before .before .flag4 .ensures .0, c .flag5 .ensures .0)
 
 pub word-spec : {M : Type 1} → statement M
 word-spec =
