@@ -1,33 +1,53 @@
--- A cycle's answer from its parts. Assumes nothing.
-use mathlib.Core.Bool.{Bool, true, false, cond, _&&_}
-use mathlib.Core.Path.{_≡_, refl, sym, ap, _∙_}
+-- The next state and a cycle's answer, from their parts. Assumes nothing.
+use mathlib.Core.Bool.{Bool, true, false, _&&_}
+use mathlib.Core.Path.{_≡_, sym, ap, _∙_}
 use mathlib.Core.List.{List, [], _∷_}
 use Prim.Native.Nat.{ℕ}
 use lib.ListN.{getD}
+use Rattle.fabric.specs.declared.port.Input.{Input}
 use Rattle.fabric.specs.declared.state.State.{State}
-use Rattle.fabric.specs.declared.route.Outcomes.{Outcomes}
 use Rattle.fabric.specs.declared.route.Report.{Report}
-use Rattle.fabric.specs.declared.route.Report.the-variants.{NoRouting, Routing}
 use Rattle.fabric.specs.declared.cycle.Inputs.{Inputs}
 use Rattle.fabric.specs.declared.cycle.Cycled.{Cycled}
 use Rattle.fabric.specs.Four.{four}
-use Rattle.fabric.specs.Header.{someActive}
-use Rattle.fabric.specs.Route.{outcomes, reported}
-use Rattle.fabric.specs.Cycle.{Machine, machine, shown, acked, report, stateAfter, rowsAfter, stepOf}
+use Rattle.fabric.specs.State.{shutAt, holderOf, input, secondRow}
+use Rattle.fabric.specs.Route.{asked, winner, routes}
+use Rattle.fabric.specs.Cycle.{Machine, shown, acked, report, holderAfter, waitingAfter, shutAfter, stateAfter, rowsAfter, stepOf}
+use Rattle.fabric.proofs.Equal.{state-of}
 
--- rows of four are equal where their parts are
-pub row-of : {A : Type 0} {a a' b b' c c' d d' : A} → a ≡ a' → b ≡ b' → c ≡ c' → d ≡ d' → (a ∷ b ∷ c ∷ d ∷ []) ≡ (a' ∷ b' ∷ c' ∷ d' ∷ [])
-row-of p q r s = cc
+-- rule 4, for one output: without a routing, with one and an asker, with one and none
+module _ (routing : Bool) (headers : List ℕ) (o : ℕ) (h : Input) where
+  pub stays : routing ≡ false → h ≡ holderAfter routing headers o h
+  stays none = rw none
 
--- rule 3: what is reported where a routing happens, and where none does
-module _ (s : State) (headers : List ℕ) {active : Bool} (some : active ≡ someActive headers) where
-  pub routing : {o : Outcomes} → (s .waiting && active) ≡ true → o ≡ outcomes s headers → Routing o ≡ reported s headers
-  unfolding reported
-  routing happens made = rw (made, sym (ap (λ (b : Bool). s .waiting && b) some) ∙ happens)
+  module _ {a : Bool} (happens : routing ≡ true) (is : a ≡ asked headers o) where
+    pub moves : {w : Input} → a ≡ true → w ≡ input (winner headers o (h .0)) → w ≡ holderAfter routing headers o h
+    moves some won = rw (happens, sym is ∙ some) won
 
-  pub no-routing : (s .waiting && active) ≡ false → NoRouting ≡ reported s headers
-  unfolding reported
-  no-routing none = rw (sym (ap (λ (b : Bool). s .waiting && b) some) ∙ none)
+    pub keeps : a ≡ false → h ≡ holderAfter routing headers o h
+    keeps nobody = rw (happens, sym is ∙ nobody)
+
+-- rule 6's flags
+module _ (s : State) (headers : List ℕ) (frame routing : Bool) where
+  pub flags-made : {a b c d : Bool} {shut : List Bool} → a ≡ (routing && asked headers 0) → b ≡ (routing && asked headers 1) → c ≡ (routing && asked headers 2) → d ≡ (routing && asked headers 3)
+      → shut ≡ (shutAfter frame a (shutAt s 0) ∷ shutAfter frame b (shutAt s 1) ∷ shutAfter frame c (shutAt s 2) ∷ shutAfter frame d (shutAt s 3) ∷ [])
+      → shut ≡ four (λ o. shutAfter frame (routing && asked headers o) (shutAt s o))
+  flags-made p q r t e = rw (e, p, q, r, t)
+
+-- rules 4, 5 and 6
+module _ (s : State) (headers : List ℕ) (frame : Bool) where
+  abbrev after : Bool → State
+  after routing = record {
+    waiting = waitingAfter frame routing (s .waiting);
+    shut = four (λ o. shutAfter frame (routing && asked headers o) (shutAt s o));
+    holders = four (λ o. holderAfter routing headers o (holderOf s o));
+  }
+
+  pub state-made : {routing w : Bool} {shut : List Bool} {holders : List Input} → routing ≡ routes s headers
+      → w ≡ after routing .waiting → shut ≡ after routing .shut → holders ≡ after routing .holders
+      → record { waiting = w; shut = shut; holders = holders } ≡ stateAfter s headers frame
+  unfolding stateAfter
+  state-made is p q r = state-of p q r ∙ ap after is
 
 abbrev made : Report → List Bool → List ℕ → State → List (List ℕ) → Cycled
 made r acks shown s rows = record {
@@ -43,6 +63,7 @@ made r acks shown s rows = record {
 }
 
 pub step-made : (m : Machine) (i : Inputs) {r : Report} {acks : List Bool} {s : State} (rows : List (List ℕ))
-    → r ≡ report m → acks ≡ four (acked (m .state) (i .acks)) → s ≡ stateAfter (m .state) (i .frame) r → rows ≡ rowsAfter (m .state) (m .rows) (i .bytes)
+    → r ≡ report m → acks ≡ four (acked (m .state) (i .acks)) → s ≡ stateAfter (m .state) (secondRow (m .rows)) (i .frame)
+    → rows ≡ rowsAfter (m .state) (m .rows) (i .bytes)
     → made r acks (shown m) s rows ≡ stepOf m i
 step-made m i rows p q t u = cc

@@ -1,4 +1,5 @@
 pub mod Tests
+pub mod Equal
 pub mod Masks
 pub mod Turns
 pub mod Decisions
@@ -6,3 +7,4 @@ pub mod States
 pub mod Cycles
 pub mod Calls
 pub mod Keeps
+pub mod Runs

@@ -39,9 +39,16 @@ unfolding ones onesIn
 ones-of a b c d =
     eqb→eq _ _ (everywhere answers (λ a b c d. eqb (ones (packed a b c d)) (bit a + bit b + bit c + bit d)) tt a b c d)
 
+not-not : (b : Bool) → not (not b) ≡ b
+not-not true = refl
+not-not false = refl
+
 module _ (f : ℕ → Bool) where
   pub in-mask : (i : ℕ) → i < 4 → bitAt i (mask f) ≡ f i
   in-mask i h = bit-of (f 0) (f 1) (f 2) (f 3) i h ∙ at-four f false i h
+
+  pub mask-asked : {m : ℕ} → m ≡ mask f → not (eqb m 0) ≡ some f
+  mask-asked e = ap (λ (m : ℕ). not (eqb m 0)) e ∙ ap not (none (f 0) (f 1) (f 2) (f 3)) ∙ not-not (some f)
 
   pub mask-none : mask f ≡ 0 → some f ≡ false
   mask-none e = not-true (some f) (sym (none (f 0) (f 1) (f 2) (f 3)) ∙ eq-eqb (mask f) 0 e)

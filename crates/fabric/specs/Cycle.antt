@@ -1,20 +1,18 @@
--- Rules 1, 2, 5, 6 and 7, a cycle, and a run of cycles.
+-- Rules 1, 2, 5, 6 and 7, and a cycle.
 use mathlib.Core.Bool.{Bool, true, false, cond, not, _&&_}
-use mathlib.Core.List.{List, [], _∷_, _++_}
-use Prim.Native.Nat.{ℕ, zero, suc}
+use mathlib.Core.List.{List, [], _∷_}
+use Prim.Native.Nat.{ℕ}
 use lib.Dec.{eqb}
 use lib.ListN.{getD}
 use Rattle.fabric.specs.declared.port.Input.{Input}
 use Rattle.fabric.specs.declared.state.State.{State}
-use Rattle.fabric.specs.declared.route.Outcome.{Outcome}
-use Rattle.fabric.specs.declared.route.Outcome.the-variants.{Quiet, Won}
 use Rattle.fabric.specs.declared.route.Report.{Report}
 use Rattle.fabric.specs.declared.route.Report.the-variants.{NoRouting}
 use Rattle.fabric.specs.declared.cycle.Inputs.{Inputs}
 use Rattle.fabric.specs.declared.cycle.Cycled.{Cycled}
 use Rattle.fabric.specs.Four.{four, some}
-use Rattle.fabric.specs.State.{shutAt, holderOf, holderAt, firstRow, secondRow, switchRow, headRow, zeroRow, stateRefusal}
-use Rattle.fabric.specs.Route.{reported, outcomeIn, routed, won}
+use Rattle.fabric.specs.State.{input, shutAt, holderOf, holderAt, firstRow, secondRow, switchRow, headRow, zeroRow, stateRefusal}
+use Rattle.fabric.specs.Route.{asked, winner, routes, reported}
 
 -- The state and the rows beside it.
 pub record Machine : Type 0 where
@@ -35,14 +33,13 @@ passes s acks i o = not (shutAt s o) && eqb (holderAt s o) i && getD acks o fals
 abbrev pub acked : State → List Bool → ℕ → Bool
 acked s acks i = some (passes s acks i)
 
--- rules 3 and 4: the headers are the second latches
+-- rules 3 and 4, as the cycle reports them
 abbrev pub report : Machine → Report
 report m = reported (m .state) (secondRow (m .rows))
 
--- rule 4: an output asked for by nobody keeps its holder, and so does every output where no routing happens
-abbrev pub holderAfter : Outcome → Input → Input
-holderAfter Quiet h = h
-holderAfter (Won w n) h = w
+-- rule 4: where no routing happens, and where nobody asks for the output, it keeps its holder
+abbrev pub holderAfter : Bool → List ℕ → ℕ → Input → Input
+holderAfter routing headers o h = cond (routing && asked headers o) (input (winner headers o (h .0))) h
 
 -- rule 5: waiting on a frame start; otherwise running after a routing; otherwise unchanged
 abbrev pub waitingAfter : Bool → Bool → Bool → Bool
@@ -52,12 +49,12 @@ waitingAfter frameStart routing waiting = cond frameStart true (cond routing fal
 abbrev pub shutAfter : Bool → Bool → Bool → Bool
 shutAfter frameStart opening shut = cond frameStart true (cond opening false shut)
 
--- rules 4, 5 and 6 together
-unfoldable pub stateAfter : State → Bool → Report → State
-stateAfter s frameStart r = record {
-  waiting = waitingAfter frameStart (routed r) (s .waiting);
-  shut = four (λ o. shutAfter frameStart (won (outcomeIn r o)) (shutAt s o));
-  holders = four (λ o. holderAfter (outcomeIn r o) (holderOf s o));
+-- rules 4, 5 and 6 together; the headers are the second latches
+unfoldable pub stateAfter : State → List ℕ → Bool → State
+stateAfter s headers frameStart = record {
+  waiting = waitingAfter frameStart (routes s headers) (s .waiting);
+  shut = four (λ o. shutAfter frameStart (routes s headers && asked headers o) (shutAt s o));
+  holders = four (λ o. holderAfter (routes s headers) headers o (holderOf s o));
 }
 
 -- rule 7: 0 if the output is shut, otherwise the second latch of its holder
@@ -73,7 +70,7 @@ rowsAfter s rows bytes = bytes ∷ firstRow rows ∷ four (switchAfter s (second
 
 -- One cycle: all rules read the state at the cycle's start.
 abbrev pub stepped : Machine → Inputs → Machine
-stepped m i = machine (stateAfter (m .state) (i .frame) (report m)) (rowsAfter (m .state) (m .rows) (i .bytes))
+stepped m i = machine (stateAfter (m .state) (secondRow (m .rows)) (i .frame)) (rowsAfter (m .state) (m .rows) (i .bytes))
 
 -- What a cycle answers where the state is accepted
 abbrev pub stepOf : Machine → Inputs → Cycled
@@ -106,8 +103,3 @@ refusedCycle n m = record {
 -- a single cycle: refusals 14, 7, 8
 abbrev pub cycleOf : Machine → Inputs → Cycled
 cycleOf m i = cond (eqb (stateRefusal (m .state)) 0) (stepOf m i) (refusedCycle (stateRefusal (m .state)) m)
-
--- A run: `ins k` are the inputs of cycle k. The machine at the start of cycle k, cycle 0 starting from m.
-unfoldable pub runOf : Machine → (ℕ → Inputs) → ℕ → Machine
-runOf m ins zero = m
-runOf m ins (suc k) = stepped (runOf m ins k) (ins k)

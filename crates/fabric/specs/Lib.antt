@@ -5,4 +5,5 @@ pub mod State
 pub mod Route
 pub mod Cycle
 pub mod Record
+pub mod Run
 pub mod Saved

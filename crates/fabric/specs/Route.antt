@@ -1,8 +1,7 @@
 -- Rules 3 and 4: whether a routing happens, what it decides for each output, and the report.
-use mathlib.Core.Bool.{Bool, true, false, cond, _&&_}
-use mathlib.Core.List.{List, [], _∷_}
+use mathlib.Core.Bool.{Bool, cond, _&&_}
+use mathlib.Core.List.{List}
 use Prim.Native.Nat.{ℕ, _-_}
-use lib.ListN.{getD}
 use Rattle.fabric.specs.declared.state.State.{State}
 use Rattle.fabric.specs.declared.route.Outcome.{Outcome}
 use Rattle.fabric.specs.declared.route.Outcome.the-variants.{Quiet, Won}
@@ -25,15 +24,19 @@ askedHigh headers o = some (highAsker headers o)
 abbrev pub remains : List ℕ → ℕ → ℕ → Bool
 remains headers o i = cond (askedHigh headers o) (highAsker headers o i) (asker headers o i)
 
--- rule 4: the new holder of an output that is asked for, from the old holder h
+-- rule 4: the new holder of an output that is asked for, from its old holder h
 abbrev pub winner : List ℕ → ℕ → ℕ → ℕ
 winner headers o h = inTurn (remains headers o) h
+
+-- rule 3: a routing happens exactly if the phase is waiting and some header is active
+abbrev pub routes : State → List ℕ → Bool
+routes s headers = s .waiting && someActive headers
 
 -- how many askers are turned away, low ones counted: all but the winner
 abbrev pub turnedAway : List ℕ → ℕ → ℕ
 turnedAway headers o = count (asker headers o) - 1
 
--- what a routing decides for output o with the old holder h
+-- The report: no routing, or for each output either quiet or the winner and how many were turned away.
 unfoldable pub decided : List ℕ → ℕ → ℕ → Outcome
 decided headers o h = cond (asked headers o) (Won (input (winner headers o h)) (turnedAway headers o)) Quiet
 
@@ -45,26 +48,5 @@ outcomes s headers = record {
   output3 = decided headers 3 (holderAt s 3);
 }
 
--- rule 3: the phase is waiting and some header is active
-abbrev pub routes : State → List ℕ → Bool
-routes s headers = s .waiting && someActive headers
-
 unfoldable pub reported : State → List ℕ → Report
 reported s headers = cond (routes s headers) (Routing (outcomes s headers)) NoRouting
-
--- a report's case for output o: quiet where no routing happened
-abbrev pub outcomesIn : Report → Outcomes
-outcomesIn NoRouting = record { output0 = Quiet; output1 = Quiet; output2 = Quiet; output3 = Quiet }
-outcomesIn (Routing r) = r
-
-abbrev pub outcomeIn : Report → ℕ → Outcome
-outcomeIn r o = getD (outcomesIn r .output0 ∷ outcomesIn r .output1 ∷ outcomesIn r .output2 ∷ outcomesIn r .output3 ∷ []) o Quiet
-
--- a routing happened; it gave an output to a winner
-abbrev pub routed : Report → Bool
-routed NoRouting = false
-routed (Routing r) = true
-
-abbrev pub won : Outcome → Bool
-won Quiet = false
-won (Won w n) = true

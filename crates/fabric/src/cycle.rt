@@ -1,13 +1,13 @@
 // Rules 1, 2, 5, 6 and 7, and a single cycle.
 ghost use mathlib.Core.Path.{_≡_};
+ghost use mathlib.Core.Bool.{_&&_};
 ghost use Rattle.fabric.specs.Four.{four};
-ghost use Rattle.fabric.specs.Route.{outcomeIn, won};
+ghost use Rattle.fabric.specs.Route.{asked};
 ghost use Rattle.fabric.specs.State.{shutAt, holderOf};
 ghost use Rattle.fabric.specs.Cycle.{machine, acked, holderAfter, waitingAfter, shutAfter, stateAfter, switchByte, rowsAfter, stepOf, refusedCycle, cycleOf};
 use super::port::Input;
 use super::port::Output;
 use super::route;
-use super::route::Outcome;
 use super::route::Report;
 use super::state;
 use super::state::State;
@@ -54,15 +54,17 @@ fn acks_to(s: State, acks: [bool; 4]) -> [bool; 4]
     ]
 }
 
-fn holder_after(o: Outcome, h: Input) -> Input
-    ensures { λ r. ⌜ r ≡ holderAfter o h ⌝ }
+// Rule 4, for an output. Nobody is looked for where no routing happens.
+fn holder_after(routing: bool, headers: [u8; 4], o: Output, holder: Input) -> Input
+    ensures { λ r. ⌜ r ≡ holderAfter routing headers (o .0) holder ⌝ }
 {
-    match o {
-        Outcome::Quiet => h,
-        Outcome::Won {
-            winner,
-            turned_away: _,
-        } => winner,
+    if !routing {
+        return holder;
+    }
+    if route::asked(headers, o) {
+        route::winner(headers, o, holder)
+    } else {
+        holder
     }
 }
 
@@ -90,45 +92,51 @@ fn shut_after(frame_start: bool, opening: bool, shut: bool) -> bool
     }
 }
 
-fn shut_flags_after(s: State, frame_start: bool, r: Report) -> [bool; 4]
-    ensures { λ t. ⌜ t ≡ four (λ o. shutAfter «frame_start» (won (outcomeIn r o)) (shutAt s o)) ⌝ }
+// A routing happened and the output was asked for.
+fn opening(routing: bool, headers: [u8; 4], o: Output) -> bool
+    ensures { λ r. ⌜ r ≡ (routing && asked headers (o .0)) ⌝ }
 {
-    let o = route::outcomes_in(r);
-    let o0 = o.output0;
-    let o1 = o.output1;
-    let o2 = o.output2;
-    let o3 = o.output3;
+    if routing {
+        route::asked(headers, o)
+    } else {
+        false
+    }
+}
+
+fn shut_flags_after(s: State, headers: [u8; 4], frame_start: bool, routing: bool) -> [bool; 4]
+    ensures { λ r. ⌜ r ≡ four (λ o. shutAfter «frame_start» (routing && asked headers o) (shutAt s o)) ⌝ }
+{
+    let open0 = opening(routing, headers, Output(0));
+    let open1 = opening(routing, headers, Output(1));
+    let open2 = opening(routing, headers, Output(2));
+    let open3 = opening(routing, headers, Output(3));
     [
-        shut_after(frame_start, route::won(o0), s.shut[0]),
-        shut_after(frame_start, route::won(o1), s.shut[1]),
-        shut_after(frame_start, route::won(o2), s.shut[2]),
-        shut_after(frame_start, route::won(o3), s.shut[3]),
+        shut_after(frame_start, open0, s.shut[0]),
+        shut_after(frame_start, open1, s.shut[1]),
+        shut_after(frame_start, open2, s.shut[2]),
+        shut_after(frame_start, open3, s.shut[3]),
     ]
 }
 
-fn holders_after(s: State, r: Report) -> [Input; 4]
-    ensures { λ t. ⌜ t ≡ four (λ o. holderAfter (outcomeIn r o) (holderOf s o)) ⌝ }
+fn holders_after(s: State, headers: [u8; 4], routing: bool) -> [Input; 4]
+    ensures { λ r. ⌜ r ≡ four (λ o. holderAfter routing headers o (holderOf s o)) ⌝ }
 {
-    let o = route::outcomes_in(r);
-    let o0 = o.output0;
-    let o1 = o.output1;
-    let o2 = o.output2;
-    let o3 = o.output3;
     [
-        holder_after(o0, s.holders[0]),
-        holder_after(o1, s.holders[1]),
-        holder_after(o2, s.holders[2]),
-        holder_after(o3, s.holders[3]),
+        holder_after(routing, headers, Output(0), s.holders[0]),
+        holder_after(routing, headers, Output(1), s.holders[1]),
+        holder_after(routing, headers, Output(2), s.holders[2]),
+        holder_after(routing, headers, Output(3), s.holders[3]),
     ]
 }
 
-fn state_after(s: State, frame_start: bool, r: Report) -> State
-    ensures { λ t. ⌜ t ≡ stateAfter s «frame_start» r ⌝ }
+fn state_after(s: State, headers: [u8; 4], frame_start: bool) -> State
+    ensures { λ r. ⌜ r ≡ stateAfter s headers «frame_start» ⌝ }
 {
-    let shut = shut_flags_after(s, frame_start, r);
-    let holders = holders_after(s, r);
+    let routing = route::routes(s, headers);
+    let shut = shut_flags_after(s, headers, frame_start, routing);
+    let holders = holders_after(s, headers, routing);
     State {
-        waiting: waiting_after(frame_start, route::routed(r), s.waiting),
+        waiting: waiting_after(frame_start, routing, s.waiting),
         shut,
         holders,
     }
@@ -167,7 +175,7 @@ pub fn step(s: State, rows: [[u8; 4]; 4], i: Inputs) -> Cycled
     let frame = i.frame;
     let bytes = i.bytes;
     let acks = i.acks;
-    let report = route::reported(s, rows[1]);
+    let headers = rows[1];
     let next = rows_after(s, rows, bytes);
     let first = next[0];
     let second = next[1];
@@ -175,10 +183,10 @@ pub fn step(s: State, rows: [[u8; 4]; 4], i: Inputs) -> Cycled
     let heads = next[3];
     Cycled {
         number: 0,
-        report,
+        report: route::reported(s, headers),
         acks: acks_to(s, acks),
         shown: rows[3],
-        state: state_after(s, frame, report),
+        state: state_after(s, headers, frame),
         first,
         second,
         switched,

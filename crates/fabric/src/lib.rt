@@ -34,3 +34,4 @@ pub use state::State;
 pub use state::refusal;
 pub use state::reset_rows;
 pub use state::reset_state;
+pub use state::rows_of;

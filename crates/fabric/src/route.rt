@@ -1,6 +1,9 @@
 // Rules 3 and 4: the routing and its report.
 ghost use mathlib.Core.Path.{_≡_};
-ghost use Rattle.fabric.specs.Route.{decided, outcomes, routes, reported, outcomesIn, routed, won};
+ghost use Prim.Native.Nat.{_<_};
+ghost use Rattle.fabric.specs.Four.{mask};
+ghost use Rattle.fabric.specs.State.{input};
+ghost use Rattle.fabric.specs.Route.{asked, remains, winner, routes, decided, outcomes, reported};
 use super::header;
 use super::port::Input;
 use super::port::Output;
@@ -24,6 +27,39 @@ pub enum Report {
     Routing(Outcomes),
 }
 
+// The askers of an output that are not set aside, as a mask.
+fn remaining(headers: [u8; 4], o: Output) -> u8
+    ensures { λ r. ⌜ (r ≡ mask (remains headers (o .0))) × (r < 16) ⌝ }
+{
+    let high = header::high_askers(headers, o);
+    if high == 0 {
+        header::askers(headers, o)
+    } else {
+        high
+    }
+}
+
+// Rule 4's new holder of an output that is asked for.
+pub(crate) fn winner(headers: [u8; 4], o: Output, holder: Input) -> Input
+    ensures { λ r. ⌜ r ≡ input (winner headers (o .0) (holder .0)) ⌝ }
+{
+    turn::in_turn(remaining(headers, o), holder)
+}
+
+// Rule 3.
+pub(crate) fn routes(s: State, headers: [u8; 4]) -> bool
+    ensures { λ r. ⌜ r ≡ routes s headers ⌝ }
+{
+    s.waiting & header::some_active(headers)
+}
+
+pub(crate) fn asked(headers: [u8; 4], o: Output) -> bool
+    ensures { λ r. ⌜ r ≡ asked headers (o .0) ⌝ }
+{
+    header::askers(headers, o) != 0
+}
+
+// What a routing decides for an output: the ones of the askers' mask, less the winner, are turned away.
 fn decided(headers: [u8; 4], o: Output, holder: Input) -> Outcome
     ensures { λ r. ⌜ r ≡ decided headers (o .0) (holder .0) ⌝ }
 {
@@ -31,76 +67,29 @@ fn decided(headers: [u8; 4], o: Output, holder: Input) -> Outcome
     if all == 0 {
         return Outcome::Quiet;
     }
-    let high = header::high_askers(headers, o);
-    let turned_away = (u32::count_ones(all as u32) - 1) as u8;
-    if high == 0 {
-        return Outcome::Won {
-            winner: turn::in_turn(all, holder),
-            turned_away,
-        };
-    }
     Outcome::Won {
-        winner: turn::in_turn(high, holder),
-        turned_away,
+        winner: winner(headers, o, holder),
+        turned_away: (u32::count_ones(all as u32) - 1) as u8,
     }
 }
 
 fn outcomes_of(s: State, headers: [u8; 4]) -> Outcomes
     ensures { λ r. ⌜ r ≡ outcomes s headers ⌝ }
 {
-    let output0 = decided(headers, Output(0), s.holders[0]);
-    let output1 = decided(headers, Output(1), s.holders[1]);
-    let output2 = decided(headers, Output(2), s.holders[2]);
-    let output3 = decided(headers, Output(3), s.holders[3]);
     Outcomes {
-        output0,
-        output1,
-        output2,
-        output3,
+        output0: decided(headers, Output(0), s.holders[0]),
+        output1: decided(headers, Output(1), s.holders[1]),
+        output2: decided(headers, Output(2), s.holders[2]),
+        output3: decided(headers, Output(3), s.holders[3]),
     }
 }
 
 pub(crate) fn reported(s: State, headers: [u8; 4]) -> Report
     ensures { λ r. ⌜ r ≡ reported s headers ⌝ }
 {
-    if s.waiting & header::some_active(headers) {
+    if routes(s, headers) {
         Report::Routing(outcomes_of(s, headers))
     } else {
         Report::NoRouting
-    }
-}
-
-pub(crate) fn outcomes_in(r: Report) -> Outcomes
-    ensures { λ t. ⌜ t ≡ outcomesIn r ⌝ }
-{
-    match r {
-        Report::NoRouting => Outcomes {
-            output0: Outcome::Quiet,
-            output1: Outcome::Quiet,
-            output2: Outcome::Quiet,
-            output3: Outcome::Quiet,
-        },
-        Report::Routing(o) => o,
-    }
-}
-
-pub(crate) fn routed(r: Report) -> bool
-    ensures { λ t. ⌜ t ≡ routed r ⌝ }
-{
-    match r {
-        Report::NoRouting => false,
-        Report::Routing(_) => true,
-    }
-}
-
-pub(crate) fn won(o: Outcome) -> bool
-    ensures { λ t. ⌜ t ≡ won o ⌝ }
-{
-    match o {
-        Outcome::Quiet => false,
-        Outcome::Won {
-            winner: _,
-            turned_away: _,
-        } => true,
     }
 }

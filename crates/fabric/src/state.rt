@@ -1,5 +1,6 @@
 // The state of the machine, reset, and the refusals of a state that is handed in.
 ghost use mathlib.Core.Path.{_≡_};
+ghost use mathlib.Core.List.{[], _∷_};
 ghost use Rattle.fabric.specs.State.{resetState, resetRows, holderAbove, openWhileWaiting, heldTwice, stateRefusal};
 use super::port::Input;
 
@@ -26,6 +27,13 @@ pub fn reset_rows() -> [[u8; 4]; 4]
     [zeros, zeros, zeros, zeros]
 }
 
+// The rows as a call takes them, from the four rows that another answered.
+pub fn rows_of(first: [u8; 4], second: [u8; 4], switched: [u8; 4], heads: [u8; 4]) -> [[u8; 4]; 4]
+    ensures { λ r. ⌜ r ≡ first ∷ second ∷ switched ∷ heads ∷ [] ⌝ }
+{
+    [first, second, switched, heads]
+}
+
 fn holder_above(s: State) -> bool
     ensures { λ r. ⌜ r ≡ holderAbove s ⌝ }
 {
@@ -41,12 +49,20 @@ fn open_while_waiting(s: State) -> bool
 fn held_twice(s: State) -> bool
     ensures { λ r. ⌜ r ≡ heldTwice s ⌝ }
 {
-    (!s.shut[0] & !s.shut[1] & (s.holders[0].0 == s.holders[1].0))
-        | (!s.shut[0] & !s.shut[2] & (s.holders[0].0 == s.holders[2].0))
-        | (!s.shut[0] & !s.shut[3] & (s.holders[0].0 == s.holders[3].0))
-        | (!s.shut[1] & !s.shut[2] & (s.holders[1].0 == s.holders[2].0))
-        | (!s.shut[1] & !s.shut[3] & (s.holders[1].0 == s.holders[3].0))
-        | (!s.shut[2] & !s.shut[3] & (s.holders[2].0 == s.holders[3].0))
+    let open0 = !s.shut[0];
+    let open1 = !s.shut[1];
+    let open2 = !s.shut[2];
+    let open3 = !s.shut[3];
+    let h0 = s.holders[0].0;
+    let h1 = s.holders[1].0;
+    let h2 = s.holders[2].0;
+    let h3 = s.holders[3].0;
+    (open0 & open1 & (h0 == h1))
+        | (open0 & open2 & (h0 == h2))
+        | (open0 & open3 & (h0 == h3))
+        | (open1 & open2 & (h1 == h2))
+        | (open1 & open3 & (h1 == h3))
+        | (open2 & open3 & (h2 == h3))
 }
 
 // 14, 7 or 8, the first that applies; 0 where the state is accepted.

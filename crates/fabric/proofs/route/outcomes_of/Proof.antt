@@ -1,9 +1,11 @@
+use Rattle.fabric.proofs.Equal.{outcomes-of}
 use borrow.Author.Needs.{needs}
 use Rattle.fabric.proofs.route.outcomes_of.Statement.{statement}
 use Rattle.fabric.proofs.route.outcomes_of.Tie as tie
 
 returns : tie.Need-returns
-returns c = cc
+returns c =
+    outcomes-of (c .before .before .before .before .before .before .decided .ensures) (c .before .before .before .before .decided2 .ensures) (c .before .before .decided3 .ensures) (c .decided4 .ensures)
 
 pub outcomes-of-spec : {M : Type 1} → statement M
 outcomes-of-spec =
