@@ -1,3 +1,13 @@
-pub fn nothing() -> u8 {
-    0
-}
+//! The replay of a capture over the cycle rules of `fabric`.
+
+mod record;
+mod refusal;
+mod run;
+
+pub use record::put_answer;
+pub use record::record_at;
+pub use refusal::Judged;
+pub use refusal::judge;
+pub use run::Replayed;
+pub use run::handed_back;
+pub use run::replay;

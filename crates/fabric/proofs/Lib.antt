@@ -6,5 +6,4 @@ pub mod Decisions
 pub mod States
 pub mod Cycles
 pub mod Calls
-pub mod Keeps
 pub mod Runs

@@ -17,6 +17,9 @@ answers = flag ∷ flag ∷ flag ∷ flag ∷ []
 abbrev packed : Bool → Bool → Bool → Bool → ℕ
 packed a b c d = bit a + 2 * bit b + 4 * bit c + 8 * bit d
 
+pub packed-of : {a a' b b' c c' d d' : Bool} → a ≡ a' → b ≡ b' → c ≡ c' → d ≡ d' → packed a b c d ≡ packed a' b' c' d'
+packed-of p q r s = cc
+
 -- an element of a row of four
 pub at-four : {A : Type 0} (f : ℕ → A) (d : A) (i : ℕ) → i < 4 → getD (four f) i d ≡ f i
 at-four f d zero h = refl

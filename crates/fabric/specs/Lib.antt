@@ -4,6 +4,4 @@ pub mod Turn
 pub mod State
 pub mod Route
 pub mod Cycle
-pub mod Record
 pub mod Run
-pub mod Saved

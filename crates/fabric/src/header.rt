@@ -2,38 +2,20 @@
 ghost use mathlib.Core.Path.{_≡_};
 ghost use Prim.Native.Nat.{_<_};
 ghost use Rattle.fabric.specs.Four.{mask};
-ghost use Rattle.fabric.specs.Header.{active, priority, outputAsked, asks, asksHigh, asker, highAsker, someActive};
+ghost use Rattle.fabric.specs.Header.{asks, asksHigh, asker, highAsker, someActive};
 use super::bits;
 use super::port::Output;
-
-fn active(h: u8) -> bool
-    ensures { λ r. ⌜ r ≡ active h ⌝ }
-{
-    h % 2 == 1
-}
-
-fn priority(h: u8) -> bool
-    ensures { λ r. ⌜ r ≡ priority h ⌝ }
-{
-    h / 2 % 2 == 1
-}
-
-fn output_asked(h: u8) -> Output
-    ensures { λ r. ⌜ r .0 ≡ outputAsked h ⌝ }
-{
-    Output(h / 4 % 4)
-}
 
 fn asks(h: u8, o: Output) -> bool
     ensures { λ r. ⌜ r ≡ asks (o .0) h ⌝ }
 {
-    active(h) & (output_asked(h).0 == o.0)
+    (h % 2 == 1) & (h / 4 % 4 == o.0)
 }
 
 fn asks_high(h: u8, o: Output) -> bool
     ensures { λ r. ⌜ r ≡ asksHigh (o .0) h ⌝ }
 {
-    asks(h, o) & priority(h)
+    (h % 2 == 1) & (h / 4 % 4 == o.0) & (h / 2 % 2 == 1)
 }
 
 // Who asks for an output, as a mask.
@@ -63,5 +45,5 @@ pub(crate) fn high_askers(headers: [u8; 4], o: Output) -> u8
 pub(crate) fn some_active(headers: [u8; 4]) -> bool
     ensures { λ r. ⌜ r ≡ someActive headers ⌝ }
 {
-    active(headers[0]) | active(headers[1]) | active(headers[2]) | active(headers[3])
+    (headers[0] % 2 == 1) | (headers[1] % 2 == 1) | (headers[2] % 2 == 1) | (headers[3] % 2 == 1)
 }

@@ -1,0 +1,3 @@
+pub mod Capture
+pub mod Refusal
+pub mod Replay
