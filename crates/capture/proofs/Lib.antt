@@ -1,0 +1,4 @@
+pub mod Records
+pub mod Bads
+pub mod Fates
+pub mod Loops

@@ -2,7 +2,7 @@
 use mathlib.Core.Bool.{Bool, true, false, cond, not}
 use mathlib.Core.Path.{_≡_, refl, sym, ap, _∙_}
 use mathlib.Core.List.{List, [], _∷_, _++_}
-use Prim.Native.Nat.{ℕ, suc, _+_, _*_, _/_, _%_, _<_, _≤_}
+use Prim.Native.Nat.{ℕ, _+_, _*_, _/_, _%_, _<_, _≤_}
 use native.Mathlib.Omega.{arith}
 use lib.Dec.{eqb, ltb}
 use lib.ListN.{length, drop}
@@ -14,13 +14,6 @@ use Rattle.fabric.specs.State.{firstRow, secondRow, switchRow, headRow, stateRe
 use Rattle.fabric.specs.Cycle.{Machine}
 use Rattle.layout.specs.Saved.{rowBytes, savedBytes, savedOf, saveRefusal, saveWrites, wordIn, stateIn, takeUpRefusal}
 use Rattle.fabric.proofs.Calls.{both-zero}
-
--- places after a place
-pub add-two : (n : ℕ) → n + 2 ≡ suc (suc n)
-add-two n = omega arith
-
-pub add-three : (n : ℕ) → n + 3 ≡ suc (suc (suc n))
-add-three n = omega arith
 
 -- the word and the four rows, put one after the other, are the saved bytes
 pub in-order : (w : ℕ) (rows : List (List ℕ)) (l : List ℕ) {a b c d e : List ℕ} → a ≡ sets l 0 (w / 256 ∷ w % 256 ∷ []) → b ≡ sets a 2 (rowBytes (firstRow rows))

@@ -1,3 +1,4 @@
+pub mod Places
 pub mod Equal
 pub mod Keeps
 pub mod Answered

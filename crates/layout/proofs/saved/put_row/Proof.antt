@@ -1,7 +1,7 @@
 use native.Mathlib.Omega.{arith}
 use native.Mathlib.Numerals.{add-one}
 use lib.ListN.{length-set}
-use Rattle.layout.proofs.Keeps.{add-two, add-three}
+use Rattle.layout.proofs.Places.{add-two, add-three}
 use borrow.Author.Needs.{needs}
 use Rattle.layout.proofs.saved.put_row.Statement.{statement}
 use Rattle.layout.proofs.saved.put_row.Tie as tie
