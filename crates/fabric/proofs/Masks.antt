@@ -2,13 +2,13 @@
 use mathlib.Core.Bool.{Bool, true, false, not, _||_, Bool·beq}
 use mathlib.Core.Path.{_≡_, refl, sym, ap, _∙_}
 use mathlib.Core.List.{List, [], _∷_}
-use Prim.Native.Nat.{ℕ, zero, suc, _+_, _*_, _<_}
-use native.Mathlib.Omega.{arith}
+use Prim.Native.Nat.{ℕ, _+_, _*_, _<_}
 use lib.Count.{ones, onesIn}
 use lib.Dec.{eqb, eqb→eq}
 use lib.ListN.{getD}
 use borrow.Author.Tests.{eq-eqb, ne-eqb, not-true, not-false}
 use Rattle.fabric.specs.Four.{four, some, bit, bitAt, count, mask}
+use Rattle.fabric.proofs.Fours.{at-four}
 use Rattle.fabric.proofs.Tests.{Range, flag, upto, everywhere, beq→eq}
 
 abbrev answers : List Range
@@ -19,14 +19,6 @@ packed a b c d = bit a + 2 * bit b + 4 * bit c + 8 * bit d
 
 pub packed-of : {a a' b b' c c' d d' : Bool} → a ≡ a' → b ≡ b' → c ≡ c' → d ≡ d' → packed a b c d ≡ packed a' b' c' d'
 packed-of p q r s = cc
-
--- an element of a row of four
-pub at-four : {A : Type 0} (f : ℕ → A) (d : A) (i : ℕ) → i < 4 → getD (four f) i d ≡ f i
-at-four f d zero h = refl
-at-four f d (suc zero) h = refl
-at-four f d (suc (suc zero)) h = refl
-at-four f d (suc (suc (suc zero))) h = refl
-at-four f d (suc (suc (suc (suc i)))) h = absurd (omega arith)
 
 bit-of : (a b c d : Bool) (i : ℕ) → i < 4 → bitAt i (packed a b c d) ≡ getD (a ∷ b ∷ c ∷ d ∷ []) i false
 bit-of a b c d i h =

@@ -1,5 +1,5 @@
 -- The refusals of a state, one law for each, and what an accepted state has. Assumes nothing.
-use mathlib.Core.Bool.{Bool, true, false, cond, _||_}
+use mathlib.Core.Bool.{Bool, true, false, cond}
 use mathlib.Core.Path.{_≡_, refl, sym, ap, _∙_}
 use Prim.Native.Nat.{ℕ, _<_}
 use native.Mathlib.Omega.{arith}
@@ -7,6 +7,7 @@ use lib.Dec.{ltb}
 use borrow.Author.Tests.{ltb-false}
 use Rattle.fabric.specs.declared.state.State.{State}
 use Rattle.fabric.specs.State.{holderAt, Held, holderAbove, openWhileWaiting, heldTwice, stateRefusal}
+use Rattle.fabric.proofs.Fours.{no-at}
 
 module _ (s : State) where
   pub refused-14 : holderAbove s ≡ true → 14 ≡ stateRefusal s
@@ -39,14 +40,6 @@ none false true c e = absurd (omega arith)
 none false false true e = absurd (omega arith)
 none false false false e = record { none-14 = refl; none-7 = refl; none-8 = refl }
 
-pub or-left : (a b : Bool) → (a || b) ≡ false → a ≡ false
-or-left true b e = e
-or-left false b e = refl
-
-pub or-right : (a b : Bool) → (a || b) ≡ false → b ≡ false
-or-right true b e = cc
-or-right false b e = e
-
 -- what an accepted state has
 module _ (s : State) (ok : stateRefusal s ≡ 0) where
   apart : None (holderAbove s) (openWhileWaiting s) (heldTwice s)
@@ -62,19 +55,9 @@ module _ (s : State) (ok : stateRefusal s ≡ 0) where
   pub not-twice : heldTwice s ≡ false
   not-twice = apart .none-8
 
+  -- each output's holder is an input's number
+  pub held-at : (o : ℕ) → o < 4 → holderAt s o < 4
+  held-at o h = let l = ltb-false 3 (holderAt s o) (no-at (λ o. ltb 3 (holderAt s o)) not-above o h) in omega arith
+
   pub held : Held s
-  held =
-      let a = ltb 3 (holderAt s 0) in
-      let b = ltb 3 (holderAt s 1) in
-      let c = ltb 3 (holderAt s 2) in
-      let d = ltb 3 (holderAt s 3) in
-      let abc = or-left (a || b || c) d not-above in
-      let ab = or-left (a || b) c abc in record {
-        held0 = under (or-left a b ab);
-        held1 = under (or-right a b ab);
-        held2 = under (or-right (a || b) c abc);
-        held3 = under (or-right (a || b || c) d not-above);
-      }
-    where
-      under : {h : ℕ} → ltb 3 h ≡ false → h < 4
-      under {h} e = let l = ltb-false 3 h e in omega arith
+  held = record { held0 = held-at 0 (omega arith); held1 = held-at 1 (omega arith); held2 = held-at 2 (omega arith); held3 = held-at 3 (omega arith) }

@@ -3,7 +3,7 @@ use native.Mathlib.Numerals.{add-one}
 use native.Mathlib.Omega.{arith}
 use lib.ListN.{length-set}
 use lib.Seq.{sets}
-use Rattle.layout.proofs.Places.{add-two, add-three, add-four, spelt-five}
+use Rattle.layout.proofs.Places.{add-two, add-three, add-four, spelt}
 use borrow.Author.Needs.{needs}
 use Rattle.capture.proofs.record.put_five.Statement.{statement}
 use Rattle.capture.proofs.record.put_five.Tie as tie
@@ -19,7 +19,7 @@ slice-write-buffer-4 c = simp length-set (omega arith)
 
 returns : tie.Need-returns
 returns c =
-    simp (add-one, add-two, add-three, add-four) (ap (sets (c .args .buffer .now) (c .args .at)) (spelt-five 0 (c .args .t3) (c .good .1 .1 .0 .1 .0 .1)))
+    simp (add-one, add-two, add-three, add-four) (ap (sets (c .args .buffer .now) (c .args .at)) (spelt 0 5 (c .args .t3) (c .good .1 .1 .0 .1 .0 .1)))
 
 pub put-five-spec : {M : Type 1} → statement M
 put-five-spec =
