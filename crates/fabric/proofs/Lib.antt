@@ -6,6 +6,7 @@ pub mod Turns
 pub mod Winners
 pub mod Decisions
 pub mod States
+pub mod Steps
 pub mod Cycles
 pub mod Calls
 pub mod Runs

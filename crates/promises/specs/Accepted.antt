@@ -1,0 +1,23 @@
+-- Accepted states: a call to which a state is handed accepts it, or refuses it by 14, 7 or 8.
+use mathlib.Core.Path.{_≡_}
+use Prim.Native.Nat.{ℕ}
+use Rattle.fabric.specs.declared.state.State.{State}
+use Rattle.fabric.specs.declared.cycle.Inputs.{Inputs}
+use Rattle.fabric.specs.State.{resetState, stateRefusal}
+use Rattle.fabric.specs.Cycle.{Machine, stepped}
+use Rattle.fabric.specs.Run.{runOf}
+
+abbrev pub Accepted : State → Type 0
+Accepted s = stateRefusal s ≡ 0
+
+-- Reset is accepted.
+abbrev pub ResetAccepted : Type 0
+ResetAccepted = Accepted resetState
+
+-- A cycle takes an accepted state to an accepted state, whatever its inputs and whatever bytes the rows hold.
+abbrev pub CycleAccepted : Type 0
+CycleAccepted = (m : Machine) (i : Inputs) → Accepted (m .state) → Accepted (stepped m i .state)
+
+-- So does every run.
+abbrev pub RunAccepted : Type 0
+RunAccepted = (m : Machine) (ins : ℕ → Inputs) (k : ℕ) → Accepted (m .state) → Accepted (runOf m ins k .state)
