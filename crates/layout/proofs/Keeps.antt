@@ -7,7 +7,7 @@ use native.Mathlib.Omega.{arith}
 use lib.Dec.{eqb, ltb}
 use lib.ListN.{length, drop}
 use lib.Seq.{sets, sets-eq}
-use borrow.Author.Tests.{eq-eqb, ne-eqb, eqb-true, ltb-false}
+use borrow.Author.Tests.{eq-eqb, ne-eqb, eqb-true, le-ltb, ltb-false}
 use Rattle.fabric.specs.declared.state.State.{State}
 use Rattle.fabric.specs.Four.{_when_otherwise_}
 use Rattle.fabric.specs.State.{firstRow, secondRow, switchRow, headRow, stateRefusal}
@@ -26,9 +26,12 @@ module _ (m : Machine) (l : List ℕ) where
   unfolding saveWrites
   not-written h = rw (ne-eqb _ _ h)
 
-  pub written : saveRefusal (m .state) (length l) ≡ 0 → 17 < length l → sets l 0 (savedOf m) ≡ saveWrites m l
+  pub written-as : saveRefusal (m .state) (length l) ≡ 0 → saveWrites m l ≡ savedOf m ++ drop 18 l
   unfolding saveWrites
-  written h room = sets-eq (savedOf m) l 0 (omega arith) ∙ rw (eq-eqb _ _ h)
+  written-as h = rw (eq-eqb _ _ h)
+
+  pub written : saveRefusal (m .state) (length l) ≡ 0 → 17 < length l → sets l 0 (savedOf m) ≡ saveWrites m l
+  written h room = sets-eq (savedOf m) l 0 (omega arith) ∙ sym (written-as h)
 
 -- what saving without a refusal has
 pub save-done : (s : State) (room : ℕ) → saveRefusal s room ≡ 0 → (stateRefusal s ≡ 0) × (18 ≤ room)
@@ -39,6 +42,10 @@ save-done s room e =
     no-9 : (b : Bool) → (9 when b otherwise 0) ≡ 0 → b ≡ false
     no-9 true e = absurd (omega arith)
     no-9 false e = refl
+
+pub save-refusal-of : (s : State) (room : ℕ) → stateRefusal s ≡ 0 → 18 ≤ room → saveRefusal s room ≡ 0
+unfolding saveRefusal
+save-refusal-of s room ok long = rw (eq-eqb _ _ ok, le-ltb _ _ long)
 
 -- taking up
 module _ (saved : List ℕ) where
