@@ -1,9 +1,8 @@
 // What becomes of a replay, known before the first byte is written. Both engines' replays go by it.
 ghost use mathlib.Core.Path.{_≡_};
-ghost use lib.ListN.{length};
+ghost use Rattle.layout.specs.Record.{spareSet};
 ghost use Rattle.capture.specs.Capture.{records};
 ghost use Rattle.capture.specs.Refusal.{earlyRefusal, firstBad, judged};
-use super::record;
 use fabric::State;
 
 const LIMIT: usize = 12288;
@@ -32,6 +31,12 @@ fn early_refusal(s: State, capture: &[u8], room: usize) -> u8
     0
 }
 
+fn spare_set(b: u8) -> bool
+    ensures { λ r. ⌜ r ≡ spareSet b ⌝ }
+{
+    b / 16 % 8 != 0
+}
+
 // The first record with a bit 6..4 set, or the number of records.
 fn first_bad(capture: &[u8]) -> usize
     ensures { λ r. ⌜ r ≡ firstBad (now (capture .entry)) 0 (records (now (capture .entry))) ⌝ }
@@ -40,7 +45,7 @@ fn first_bad(capture: &[u8]) -> usize
     let mut k: usize = 0;
     while k < n {
         let b = capture[5 * k];
-        if layout::spare_set(b) {
+        if spare_set(b) {
             return k;
         }
         k += 1;

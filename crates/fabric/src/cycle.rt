@@ -176,6 +176,7 @@ pub fn step(s: State, rows: [[u8; 4]; 4], i: Inputs) -> Cycled
     let bytes = i.bytes;
     let acks = i.acks;
     let headers = rows[1];
+    let state = state_after(s, headers, frame);
     let next = rows_after(s, rows, bytes);
     let first = next[0];
     let second = next[1];
@@ -186,7 +187,7 @@ pub fn step(s: State, rows: [[u8; 4]; 4], i: Inputs) -> Cycled
         report: route::reported(s, headers),
         acks: acks_to(s, acks),
         shown: rows[3],
-        state: state_after(s, headers, frame),
+        state,
         first,
         second,
         switched,

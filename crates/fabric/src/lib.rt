@@ -10,7 +10,6 @@ mod route;
 mod state;
 mod turn;
 
-pub use bits::flag;
 pub use bits::mask;
 pub use cycle::Cycled;
 pub use cycle::Inputs;

@@ -8,7 +8,6 @@ pub use record::answer_bytes;
 pub use record::answer_from;
 pub use record::inputs_from;
 pub use record::record_of;
-pub use record::spare_set;
 pub use saved::TakenUp;
 pub use saved::save;
 pub use saved::take_up;

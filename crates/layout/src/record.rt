@@ -1,6 +1,6 @@
 // The packed records, 5 bytes each.
 ghost use mathlib.Core.Path.{_≡_};
-ghost use Rattle.layout.specs.Record.{inputsFrom, recordOf, spareSet, answerBytes, answerFrom};
+ghost use Rattle.layout.specs.Record.{inputsFrom, recordOf, answerBytes, answerFrom};
 use fabric::Inputs;
 
 // A cycle's inputs from a capture record.
@@ -26,15 +26,10 @@ pub fn record_of(i: Inputs) -> [u8; 5]
 {
     let bytes = i.bytes;
     let acks = i.acks;
-    let head = 128 * fabric::flag(i.frame) + fabric::mask(acks[0], acks[1], acks[2], acks[3]);
+    let high = fabric::mask(false, false, false, i.frame);
+    let low = fabric::mask(acks[0], acks[1], acks[2], acks[3]);
+    let head = 16 * high + low;
     [head, bytes[0], bytes[1], bytes[2], bytes[3]]
-}
-
-// A bit 6..4 of a capture record's byte 0 is set.
-pub fn spare_set(b: u8) -> bool
-    ensures { λ r. ⌜ r ≡ spareSet b ⌝ }
-{
-    b / 16 % 8 != 0
 }
 
 // A cycle's answer: the acknowledgements to the inputs and the shown head bytes.

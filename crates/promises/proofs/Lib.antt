@@ -1,3 +1,4 @@
 pub mod Accepting
+pub mod Recording
 pub mod Keeping
 pub mod Joining

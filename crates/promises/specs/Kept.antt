@@ -1,11 +1,14 @@
--- Saving and taking up give back what was there, both ways.
+-- Records and saved states give back what was there, both ways.
+use mathlib.Core.Bool.{Bool, false}
 use mathlib.Core.Path.{_≡_}
 use mathlib.Core.List.{List, [], _∷_}
 use Prim.Native.Nat.{ℕ, _<_, _≤_}
 use lib.ListN.{length, getD, take}
+use Rattle.fabric.specs.declared.cycle.Inputs.{Inputs}
 use Rattle.fabric.specs.State.{firstRow, secondRow, switchRow, headRow}
 use Rattle.fabric.specs.Cycle.{Machine, machine}
 use Rattle.layout.specs.declared.saved.TakenUp.{TakenUp}
+use Rattle.layout.specs.Record.{inputsFrom, recordOf, spareSet, answerBytes, answerFrom}
 use Rattle.layout.specs.Saved.{saveRefusal, saveWrites, takeUpRefusal, takeUpOf}
 
 -- Four flags, four holders and four rows of four, as every state and every array of rows of the code has them: the logic's lists
@@ -47,3 +50,21 @@ abbrev pub TakenUpSaved : Type 0
 TakenUpSaved =
     (saved buffer : List ℕ) → Bytes saved → takeUpRefusal saved ≡ 0 → 18 ≤ length buffer
     → take 18 (saveWrites (machineIn (takeUpOf saved)) buffer) ≡ saved
+
+-- A capture record brings back the inputs that it was made of, and inputs make the record that they came from, if that record has no
+-- bit 6..4 set.
+abbrev pub RecordRead : Type 0
+RecordRead = (i : Inputs) → length (i .bytes) ≡ 4 → length (i .acks) ≡ 4 → inputsFrom (recordOf i) ≡ i
+
+abbrev pub RecordMade : Type 0
+RecordMade = (b : List ℕ) → Bytes b → length b ≡ 5 → spareSet (getD b 0 0) ≡ false → recordOf (inputsFrom b) ≡ b
+
+-- An answer record brings back its acknowledgements and heads, and those make the record that they came from, if that record has no
+-- bit 7..4 set.
+abbrev pub AnswerRead : Type 0
+AnswerRead =
+    (acks : List Bool) (heads : List ℕ) → length acks ≡ 4 → length heads ≡ 4
+    → answerFrom (answerBytes acks heads) ≡ record { acks = acks; heads = heads }
+
+abbrev pub AnswerMade : Type 0
+AnswerMade = (b : List ℕ) → length b ≡ 5 → getD b 0 0 < 16 → answerBytes (answerFrom b .acks) (answerFrom b .heads) ≡ b
