@@ -2,7 +2,7 @@
 use mathlib.Core.Bool.{Bool, true, false, cond, not}
 use mathlib.Core.Path.{_≡_, refl, sym, ap, _∙_}
 use mathlib.Core.List.{List}
-use Prim.Native.Nat.{ℕ, _+_, _%_, _<_, _≤_}
+use Prim.Native.Nat.{ℕ, _%_, _<_, _≤_}
 use native.Mathlib.Omega.{arith}
 use lib.Dec.{eqb, ltb}
 use lib.ListN.{length}
@@ -11,7 +11,6 @@ use Rattle.fabric.specs.declared.state.State.{State}
 use Rattle.fabric.specs.Four.{_when_otherwise_}
 use Rattle.fabric.specs.State.{stateRefusal}
 use Rattle.fabric.proofs.Calls.{by-first, by-later, both-zero}
-use Rattle.capture.specs.declared.refusal.Judged.{Judged}
 use Rattle.capture.specs.declared.refusal.Judged.the-variants.{Refused, Done}
 use Rattle.capture.specs.Capture.{records}
 use Rattle.capture.specs.Refusal.{limit, earlyRefusal, firstBad, judged}

@@ -1,12 +1,12 @@
 -- The replay's loop: what holds after k records, and that a turn takes it to k + 1. Both engines' replays go by it. Assumes nothing.
 use mathlib.Core.Bool.{Bool}
 use mathlib.Core.Path.{_≡_, refl, sym, ap, _∙_}
-use mathlib.Core.List.{List, [], _∷_, _++_}
-use Prim.Native.Nat.{ℕ, suc, _+_, _*_, _/_, _<_, _≤_}
+use mathlib.Core.List.{List, _++_}
+use Prim.Native.Nat.{ℕ, _+_, _*_, _<_, _≤_}
 use native.Mathlib.Numerals.{add-one}
 use native.Mathlib.Omega.{arith}
 use lib.ListN.{length, take, drop}
-use lib.Seq.{sets, sets-eq, length-sets, take-at, drop-drop, drop-append-add}
+use lib.Seq.{sets-eq, length-sets, take-at, drop-drop, drop-append-add}
 use Rattle.fabric.specs.declared.state.State.{State}
 use Rattle.fabric.specs.Four.{four}
 use Rattle.fabric.specs.Cycle.{Machine, machine, shown, acked, stepped}

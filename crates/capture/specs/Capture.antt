@@ -1,5 +1,5 @@
 -- A capture is a sequence of records, 5 bytes each, and a lent buffer takes an answer record for each of them.
-use mathlib.Core.Bool.{Bool, cond}
+use mathlib.Core.Bool.{cond}
 use mathlib.Core.List.{List, [], _∷_}
 use Prim.Native.Nat.{ℕ, _+_, _*_, _/_}
 use lib.Dec.{ltb}

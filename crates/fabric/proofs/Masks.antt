@@ -7,7 +7,7 @@ use lib.Count.{ones, onesIn}
 use lib.Dec.{eqb, eqb→eq}
 use lib.ListN.{getD}
 use borrow.Author.Tests.{eq-eqb, ne-eqb, not-true, not-false}
-use Rattle.fabric.specs.Four.{four, some, bit, bitAt, count, mask}
+use Rattle.fabric.specs.Four.{some, bit, bitAt, count, mask}
 use Rattle.fabric.proofs.Fours.{at-four}
 use Rattle.fabric.proofs.Tests.{Range, flag, upto, everywhere, beq→eq}
 

@@ -1,13 +1,13 @@
 -- Rule 4's winner: an asker, in the high class where one of the askers is, and so the holder of no other output that is asked for.
 -- Assumes nothing.
-use mathlib.Core.Bool.{Bool, true, false, cond, _&&_}
-use mathlib.Core.Path.{_≡_, refl, sym, ap, _∙_}
+use mathlib.Core.Bool.{Bool, true, false, cond}
+use mathlib.Core.Path.{_≡_, refl}
 use mathlib.Core.List.{List}
 use Prim.Native.Nat.{ℕ, _<_}
 use lib.Dec.{eqb}
 use borrow.Author.Tests.{eqb-true}
 use Rattle.fabric.specs.Four.{some}
-use Rattle.fabric.specs.Header.{active, priority, outputAsked, asks, headerOf, asker, highAsker}
+use Rattle.fabric.specs.Header.{active, priority, outputAsked, headerOf, asker, highAsker}
 use Rattle.fabric.specs.Route.{asked, askedHigh, remains, winner}
 use Rattle.fabric.proofs.Fours.{and-left, and-right}
 use Rattle.fabric.proofs.Turns.{turn-lt, turn-named}

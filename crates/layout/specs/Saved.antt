@@ -1,9 +1,9 @@
 -- The saved state, 18 bytes, most significant first: a 16-bit word, high byte first, then the four rows.
-use mathlib.Core.Bool.{Bool, true, false, cond, not}
+use mathlib.Core.Bool.{cond, not}
 use mathlib.Core.List.{List, [], _∷_, _++_}
 use Prim.Native.Nat.{ℕ, _+_, _*_, _/_, _%_, _^_}
 use lib.Dec.{eqb, ltb}
-use lib.ListN.{getD, length, drop}
+use lib.ListN.{length, drop}
 use Rattle.fabric.specs.declared.state.State.{State}
 use Rattle.layout.specs.declared.saved.TakenUp.{TakenUp}
 use Rattle.fabric.specs.Four.{four, bit, bitAt, _when_otherwise_}

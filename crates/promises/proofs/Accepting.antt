@@ -1,6 +1,6 @@
 -- Accepted states stay accepted. An output that opens at a routing was shut before it, as all are while the machine waits; its new
 -- holder's header names it, so no two outputs that open have one holder. Assumes nothing.
-use mathlib.Core.Bool.{Bool, true, false, cond, not, _&&_, _||_}
+use mathlib.Core.Bool.{Bool, true, false, cond, not, _&&_}
 use mathlib.Core.Path.{_≡_, refl, sym, ap, subst, _∙_}
 use mathlib.Core.List.{List}
 use Prim.Native.Nat.{ℕ, zero, suc, _<_}
@@ -9,12 +9,11 @@ use lib.Dec.{eqb}
 use borrow.Author.Tests.{ne-eqb, not-false}
 use Rattle.fabric.specs.declared.port.Input.{Input}
 use Rattle.fabric.specs.declared.state.State.{State}
-use Rattle.fabric.specs.declared.cycle.Inputs.{Inputs}
 use Rattle.fabric.specs.Four.{some}
 use Rattle.fabric.specs.Header.{outputAsked, headerOf, someActive}
 use Rattle.fabric.specs.State.{input, shutAt, holderOf, holderAt, secondRow, openWhileWaiting, shareHolder, stateRefusal}
 use Rattle.fabric.specs.Route.{asked, winner, routes}
-use Rattle.fabric.specs.Cycle.{Machine, waitingAfter, shutAfter, holderAfter, stateAfter, stepped}
+use Rattle.fabric.specs.Cycle.{shutAfter, stateAfter}
 use Rattle.fabric.specs.Run.{runOf}
 use Rattle.fabric.proofs.Fours.{no-at, none-of, and-left}
 use Rattle.fabric.proofs.States.{held-at, not-open-waiting, not-twice}

@@ -2,14 +2,12 @@
 use mathlib.Core.Bool.{Bool, true, false}
 use mathlib.Core.Path.{_≡_, refl, sym, ap, _∙_}
 use mathlib.Core.List.{List, [], _++_}
-use Prim.Native.Nat.{ℕ, suc, _+_, _-_, _*_, _/_, _%_, _<_, _≤_}
+use Prim.Native.Nat.{ℕ, _+_, _-_, _*_, _%_, _<_, _≤_}
 use native.Mathlib.Omega.{arith}
 use lib.Dec.{ltb}
-use lib.ListN.{length, getD, drop, length-append, List·getD-append}
+use lib.ListN.{length, drop, length-append, List·getD-append}
 use lib.Seq.{getD-append-add}
 use borrow.Author.Tests.{ltb-true, ltb-false}
-use Rattle.fabric.specs.declared.state.State.{State}
-use Rattle.fabric.specs.declared.cycle.Inputs.{Inputs}
 use Rattle.fabric.specs.Cycle.{Machine}
 use Rattle.fabric.specs.Run.{runOf}
 use Rattle.fabric.proofs.Runs.{run-cut, run-same}
@@ -17,14 +15,13 @@ use Rattle.layout.specs.Record.{byteAt, spareSet, inputsFrom}
 use Rattle.layout.specs.Answers.{answersOf}
 use Rattle.layout.proofs.Answered.{answers-length, answers-cut, answers-same}
 use Rattle.capture.specs.declared.refusal.Judged.{Judged}
-use Rattle.capture.specs.declared.refusal.Judged.the-variants.{Refused, Done}
 use Rattle.capture.specs.Capture.{records, fiveAt, recordAt, inputsIn}
-use Rattle.capture.specs.Refusal.{limit, bad, firstBad, judged}
+use Rattle.capture.specs.Refusal.{bad, firstBad}
 use Rattle.capture.specs.Replay.{endOf, answers, replayedAs, writtenAs}
-use Rattle.capture.proofs.Records.{record-there, record-past}
+use Rattle.capture.proofs.Records.{record-there}
 use Rattle.capture.proofs.Bads.{all-good, good-at}
-use Rattle.capture.proofs.Fates.{Doable, doable, is-done}
-use Rattle.promises.specs.Joined.{IsRun, ReplayIsRun, IsRefused, ReplayRefused, EmptyReplay, IsJoined, JoinedReplay, JoinedDone}
+use Rattle.capture.proofs.Fates.{doable, is-done}
+use Rattle.promises.specs.Joined.{ReplayIsRun, ReplayRefused, EmptyReplay, JoinedReplay, JoinedDone}
 use Rattle.promises.proofs.Accepting.{run-accepted}
 
 pub replay-is-run : ReplayIsRun

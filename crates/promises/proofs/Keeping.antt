@@ -1,18 +1,18 @@
 -- Saving and taking up, both ways. The state word's fields are read off by linear arithmetic one way, and put together digit by digit the
 -- other. Assumes nothing.
-use mathlib.Core.Bool.{Bool, true, false, cond}
+use mathlib.Core.Bool.{Bool, true, false}
 use mathlib.Core.Path.{_≡_, refl, sym, ap, _∙_}
-use mathlib.Core.List.{List, [], _∷_, _++_}
-use Prim.Native.Nat.{ℕ, zero, suc, _+_, _*_, _/_, _%_, _^_, _<_, _≤_}
+use mathlib.Core.List.{List}
+use Prim.Native.Nat.{ℕ, zero, suc, _+_, _*_, _/_, _%_, _<_, _≤_}
 use native.Mathlib.Nat.{mod-lt, div-add-mod', div-div-eq-div-mul, div-eq-of-lt}
 use native.Mathlib.Omega.{arith}
 use lib.Dec.{eqb, lit<}
 use lib.ListN.{length, getD, take, drop}
 use lib.Seq.{take-at}
 use Rattle.fabric.specs.declared.state.State.{State}
-use Rattle.fabric.specs.Four.{bit, bitAt}
+use Rattle.fabric.specs.Four.{bit}
 use Rattle.fabric.specs.State.{input, shutAt, holderAt, Held, firstRow, secondRow, switchRow, headRow, stateRefusal}
-use Rattle.fabric.specs.Cycle.{Machine, machine}
+use Rattle.fabric.specs.Cycle.{Machine}
 use Rattle.fabric.proofs.Calls.{answered}
 use Rattle.fabric.proofs.Equal.{row-of, state-of}
 use Rattle.fabric.proofs.States.{held}
@@ -21,7 +21,7 @@ use Rattle.layout.specs.Saved.{wordOf, savedOf, saveRefusal, saveWrites, wordIn
 use Rattle.layout.proofs.Equal.{taken-up}
 use Rattle.layout.proofs.Keeps.{save-done, written-as, number-7-8, take-up-done, save-refusal-of}
 use Rattle.layout.proofs.Places.{spelt}
-use Rattle.promises.specs.Kept.{FourOfEach, Bytes, takenUpAs, machineIn, SavedTakenUp, TakenUpSaved}
+use Rattle.promises.specs.Kept.{FourOfEach, takenUpAs, machineIn, SavedTakenUp, TakenUpSaved}
 
 bit-le : (b : Bool) → bit b ≤ 1
 bit-le true = omega arith

@@ -5,16 +5,16 @@ use mathlib.Core.List.{List, [], _∷_}
 use Prim.Native.Nat.{ℕ, _+_, _*_, _<_}
 use native.Mathlib.Omega.{arith}
 use lib.Dec.{T, eqb, eqb→eq}
-use lib.ListN.{length, getD}
+use lib.ListN.{getD}
 use Rattle.fabric.specs.declared.cycle.Inputs.{Inputs}
-use Rattle.fabric.specs.Four.{four, bit, bitAt, mask}
+use Rattle.fabric.specs.Four.{four, bit, bitAt}
 use Rattle.fabric.proofs.Equal.{two, row-of}
 use Rattle.fabric.proofs.Masks.{in-mask}
 use Rattle.fabric.proofs.Tests.{Range, flag, upto, everywhere, beq→eq}
 use Rattle.layout.specs.declared.record.Answer.{Answer}
-use Rattle.layout.specs.Record.{byteAt, flagAt, inputsFrom, recordOf, spareSet, answerBytes, answerFrom}
+use Rattle.layout.specs.Record.{flagAt, spareSet}
 use Rattle.layout.proofs.Places.{spelt}
-use Rattle.promises.specs.Kept.{Bytes, RecordRead, RecordMade, AnswerRead, AnswerMade}
+use Rattle.promises.specs.Kept.{RecordRead, RecordMade, AnswerRead, AnswerMade}
 
 -- byte 0 of a capture record, from a frame start and four acknowledgements
 abbrev head : Bool → Bool → Bool → Bool → Bool → ℕ
