@@ -1,3 +1,4 @@
+pub mod Settling
 pub mod Accepting
 pub mod Recording
 pub mod Keeping

@@ -1,3 +1,4 @@
+pub mod Settled
 pub mod Accepted
 pub mod Kept
 pub mod Joined
