@@ -8,13 +8,13 @@ use native.Mathlib.Omega.{arith}
 use lib.ListN.{length, take, drop}
 use lib.Seq.{sets-eq, length-sets, take-at, drop-drop, drop-append-add}
 use Rattle.fabric.specs.declared.state.State.{State}
-use Rattle.fabric.specs.Four.{four}
+use Rattle.routing.specs.Four.{four}
 use Rattle.fabric.specs.Cycle.{Machine, machine, shown, acked, stepped}
 use Rattle.fabric.specs.Run.{runOf}
-use Rattle.fabric.proofs.Equal.{two}
-use Rattle.layout.specs.Record.{answerBytes}
-use Rattle.layout.specs.Answers.{answerOf, answersOf}
-use Rattle.layout.proofs.Answered.{answers-length}
+use Rattle.routing.proofs.Equal.{two}
+use Rattle.records.specs.Record.{answerBytes}
+use Rattle.records.specs.Answers.{answerOf, answersOf}
+use Rattle.records.proofs.Answered.{answers-length}
 use Rattle.capture.specs.Capture.{records, inputsIn, withAnswer}
 use Rattle.capture.proofs.Records.{answer-there}
 

@@ -4,7 +4,7 @@ use mathlib.Core.List.{List, [], _∷_}
 use Prim.Native.Nat.{ℕ, _*_, _<_, _≤_}
 use lib.Seq.{sets}
 use borrow.Author.Tests.{lt-ltb, le-ltb}
-use Rattle.layout.specs.Record.{byteAt}
+use Rattle.records.specs.Record.{byteAt}
 use Rattle.capture.specs.Capture.{records, fiveAt, recordAt, withAnswer}
 
 module _ (bytes : List ℕ) (k : ℕ) where

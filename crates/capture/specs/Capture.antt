@@ -6,7 +6,7 @@ use lib.Dec.{ltb}
 use lib.ListN.{length}
 use lib.Seq.{sets}
 use Rattle.fabric.specs.declared.cycle.Inputs.{Inputs}
-use Rattle.layout.specs.Record.{byteAt, inputsFrom}
+use Rattle.records.specs.Record.{byteAt, inputsFrom}
 
 -- how many whole records bytes hold
 abbrev pub records : List ℕ → ℕ

@@ -5,9 +5,9 @@ use Prim.Native.Nat.{ℕ, zero, suc, _%_}
 use lib.Dec.{eqb, ltb}
 use lib.ListN.{length}
 use Rattle.fabric.specs.declared.state.State.{State}
-use Rattle.fabric.specs.Four.{_when_otherwise_}
+use Rattle.fabric.specs.State.{_when_otherwise_}
 use Rattle.fabric.specs.State.{stateRefusal}
-use Rattle.layout.specs.Record.{byteAt, spareSet}
+use Rattle.records.specs.Record.{byteAt, spareSet}
 use Rattle.capture.specs.declared.refusal.Judged.{Judged}
 use Rattle.capture.specs.declared.refusal.Judged.the-variants.{Refused, Done}
 use Rattle.capture.specs.Capture.{records, recordAt}

@@ -5,7 +5,7 @@ use lib.ListN.{length, drop}
 use Rattle.fabric.specs.State.{firstRow, secondRow, switchRow, headRow}
 use Rattle.fabric.specs.Cycle.{Machine}
 use Rattle.fabric.specs.Run.{runOf}
-use Rattle.layout.specs.Answers.{answersOf}
+use Rattle.records.specs.Answers.{answersOf}
 use Rattle.capture.specs.declared.refusal.Judged.{Judged}
 use Rattle.capture.specs.declared.refusal.Judged.the-variants.{Refused, Done}
 use Rattle.capture.specs.declared.run.Replayed.{Replayed}

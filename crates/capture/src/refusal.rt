@@ -1,6 +1,6 @@
 // What becomes of a replay, known before the first byte is written. Both engines' replays go by it.
 ghost use mathlib.Core.Path.{_≡_};
-ghost use Rattle.layout.specs.Record.{spareSet};
+ghost use Rattle.records.specs.Record.{spareSet};
 ghost use Rattle.capture.specs.Capture.{records};
 ghost use Rattle.capture.specs.Refusal.{earlyRefusal, firstBad, judged};
 use fabric::State;

@@ -52,11 +52,11 @@ fn run(s: State, rows: [[u8; 4]; 4], capture: &[u8], buffer: &mut [u8]) -> Repla
     let mut r = rows;
     let mut k: usize = 0;
     while k < n {
-        let i = layout::inputs_from(record::record_at(capture, k));
+        let i = records::inputs_from(record::record_at(capture, k));
         let t = fabric::step(state, r, i);
         let acks = t.acks;
         let shown = t.shown;
-        record::put_answer(&mut *buffer, k, layout::answer_bytes(acks, shown));
+        record::put_answer(&mut *buffer, k, records::answer_bytes(acks, shown));
         let first = t.first;
         let second = t.second;
         let switched = t.switched;

@@ -4,14 +4,15 @@ use mathlib.Core.Path.{_≡_, sym, ap, _∙_}
 use mathlib.Core.List.{List, [], _∷_}
 use Prim.Native.Nat.{ℕ}
 use lib.ListN.{getD}
-use Rattle.fabric.specs.declared.port.Input.{Input}
+use Rattle.routing.specs.declared.port.Input.{Input}
 use Rattle.fabric.specs.declared.state.State.{State}
-use Rattle.fabric.specs.declared.route.Report.{Report}
+use Rattle.routing.specs.declared.route.Report.{Report}
 use Rattle.fabric.specs.declared.cycle.Inputs.{Inputs}
 use Rattle.fabric.specs.declared.cycle.Cycled.{Cycled}
-use Rattle.fabric.specs.Four.{four}
-use Rattle.fabric.specs.State.{shutAt, holderOf, input, secondRow}
-use Rattle.fabric.specs.Route.{asked, winner, routes}
+use Rattle.routing.specs.Four.{four}
+use Rattle.fabric.specs.State.{shutAt, holderOf, secondRow}
+use Rattle.routing.specs.Port.{input}
+use Rattle.routing.specs.Route.{asked, winner, routes}
 use Rattle.fabric.specs.Cycle.{Machine, shown, acked, report, holderAfter, waitingAfter, shutAfter, stateAfter, rowsAfter, stepOf}
 use Rattle.fabric.proofs.Equal.{state-of}
 
@@ -43,7 +44,7 @@ module _ (s : State) (headers : List ℕ) (frame : Bool) where
     holders = four (λ o. holderAfter routing headers o (holderOf s o));
   }
 
-  pub state-made : {routing w : Bool} {shut : List Bool} {holders : List Input} → routing ≡ routes s headers
+  pub state-made : {routing w : Bool} {shut : List Bool} {holders : List Input} → routing ≡ routes (s .waiting) headers
       → w ≡ after routing .waiting → shut ≡ after routing .shut → holders ≡ after routing .holders
       → record { waiting = w; shut = shut; holders = holders } ≡ stateAfter s headers frame
   unfolding stateAfter

@@ -1,10 +1,4 @@
-pub mod Tests
 pub mod Equal
-pub mod Fours
-pub mod Masks
-pub mod Turns
-pub mod Winners
-pub mod Decisions
 pub mod States
 pub mod Steps
 pub mod Cycles

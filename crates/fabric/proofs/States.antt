@@ -7,7 +7,7 @@ use lib.Dec.{ltb}
 use borrow.Author.Tests.{ltb-false}
 use Rattle.fabric.specs.declared.state.State.{State}
 use Rattle.fabric.specs.State.{holderAt, Held, holderAbove, openWhileWaiting, heldTwice, stateRefusal}
-use Rattle.fabric.proofs.Fours.{no-at}
+use Rattle.routing.proofs.Fours.{no-at}
 
 module _ (s : State) where
   pub refused-14 : holderAbove s ≡ true → 14 ≡ stateRefusal s

@@ -7,27 +7,28 @@ use native.Mathlib.Omega.{arith}
 use lib.Dec.{ltb}
 use borrow.Author.Tests.{le-ltb}
 use Rattle.fabric.specs.declared.state.State.{State}
-use Rattle.fabric.specs.State.{input, shutAt, holderOf, holderAt, openWhileWaiting, shareHolder, heldTwice, stateRefusal}
-use Rattle.fabric.specs.Route.{asked, routes}
+use Rattle.fabric.specs.State.{shutAt, holderOf, holderAt, openWhileWaiting, shareHolder, heldTwice, stateRefusal}
+use Rattle.routing.specs.Port.{input}
+use Rattle.routing.specs.Route.{asked, routes}
 use Rattle.fabric.specs.Cycle.{waitingAfter, shutAfter, holderAfter, stateAfter}
-use Rattle.fabric.proofs.Fours.{at-four, none-of, or-left, or-right}
+use Rattle.routing.proofs.Fours.{at-four, none-of, or-left, or-right}
 use Rattle.fabric.proofs.States.{accepted}
 
 module _ (s : State) (headers : List ℕ) (frame : Bool) where
   -- rule 5
-  pub waiting-step : stateAfter s headers frame .waiting ≡ waitingAfter frame (routes s headers) (s .waiting)
+  pub waiting-step : stateAfter s headers frame .waiting ≡ waitingAfter frame (routes (s .waiting) headers) (s .waiting)
   unfolding stateAfter
   waiting-step = refl
 
   -- rule 6
-  pub shut-step : (o : ℕ) → o < 4 → shutAt (stateAfter s headers frame) o ≡ shutAfter frame (routes s headers && asked headers o) (shutAt s o)
+  pub shut-step : (o : ℕ) → o < 4 → shutAt (stateAfter s headers frame) o ≡ shutAfter frame (routes (s .waiting) headers && asked headers o) (shutAt s o)
   unfolding stateAfter
-  shut-step o h = at-four (λ o. shutAfter frame (routes s headers && asked headers o) (shutAt s o)) false o h
+  shut-step o h = at-four (λ o. shutAfter frame (routes (s .waiting) headers && asked headers o) (shutAt s o)) false o h
 
   -- rule 4
-  pub holder-step : (o : ℕ) → o < 4 → holderOf (stateAfter s headers frame) o ≡ holderAfter (routes s headers) headers o (holderOf s o)
+  pub holder-step : (o : ℕ) → o < 4 → holderOf (stateAfter s headers frame) o ≡ holderAfter (routes (s .waiting) headers) headers o (holderOf s o)
   unfolding stateAfter
-  holder-step o h = at-four (λ o. holderAfter (routes s headers) headers o (holderOf s o)) (input 0) o h
+  holder-step o h = at-four (λ o. holderAfter (routes (s .waiting) headers) headers o (holderOf s o)) (input 0) o h
 
 -- refusal 8's six pairs, one by one and together
 six : (p q r s t u : Bool) → (p || q || r || s || t || u) ≡ false → (p ≡ false) × (q ≡ false) × (r ≡ false) × (s ≡ false) × (t ≡ false) × (u ≡ false)

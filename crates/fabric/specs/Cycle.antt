@@ -4,15 +4,16 @@ use mathlib.Core.List.{List, [], _∷_}
 use Prim.Native.Nat.{ℕ}
 use lib.Dec.{eqb}
 use lib.ListN.{getD}
-use Rattle.fabric.specs.declared.port.Input.{Input}
+use Rattle.routing.specs.declared.port.Input.{Input}
 use Rattle.fabric.specs.declared.state.State.{State}
-use Rattle.fabric.specs.declared.route.Report.{Report}
-use Rattle.fabric.specs.declared.route.Report.the-variants.{NoRouting}
+use Rattle.routing.specs.declared.route.Report.{Report}
+use Rattle.routing.specs.declared.route.Report.the-variants.{NoRouting}
 use Rattle.fabric.specs.declared.cycle.Inputs.{Inputs}
 use Rattle.fabric.specs.declared.cycle.Cycled.{Cycled}
-use Rattle.fabric.specs.Four.{four, some}
-use Rattle.fabric.specs.State.{input, shutAt, holderOf, holderAt, firstRow, secondRow, switchRow, headRow, zeroRow, stateRefusal}
-use Rattle.fabric.specs.Route.{asked, winner, routes, reported}
+use Rattle.routing.specs.Four.{four, some}
+use Rattle.routing.specs.Port.{input}
+use Rattle.fabric.specs.State.{shutAt, holderOf, holderAt, firstRow, secondRow, switchRow, headRow, zeroRow, stateRefusal}
+use Rattle.routing.specs.Route.{asked, winner, routes, reported}
 
 -- The state and the rows beside it.
 pub record Machine : Type 0 where
@@ -35,7 +36,7 @@ acked s acks i = some (passes s acks i)
 
 -- rules 3 and 4, as the cycle reports them
 abbrev pub report : Machine → Report
-report m = reported (m .state) (secondRow (m .rows))
+report m = reported (m .state .waiting) (m .state .holders) (secondRow (m .rows))
 
 -- rule 4: where no routing happens, and where nobody asks for the output, it keeps its holder
 abbrev pub holderAfter : Bool → List ℕ → ℕ → Input → Input
@@ -52,9 +53,9 @@ shutAfter frameStart opening shut = cond frameStart true (cond opening false shu
 -- rules 4, 5 and 6 together; the headers are the second latches
 unfoldable pub stateAfter : State → List ℕ → Bool → State
 stateAfter s headers frameStart = record {
-  waiting = waitingAfter frameStart (routes s headers) (s .waiting);
-  shut = four (λ o. shutAfter frameStart (routes s headers && asked headers o) (shutAt s o));
-  holders = four (λ o. holderAfter (routes s headers) headers o (holderOf s o));
+  waiting = waitingAfter frameStart (routes (s .waiting) headers) (s .waiting);
+  shut = four (λ o. shutAfter frameStart (routes (s .waiting) headers && asked headers o) (shutAt s o));
+  holders = four (λ o. holderAfter (routes (s .waiting) headers) headers o (holderOf s o));
 }
 
 -- rule 7: 0 if the output is shut, otherwise the second latch of its holder

@@ -1,22 +1,20 @@
 -- The state at a cycle's start, reset, and the refusals of a state that is handed in.
-use mathlib.Core.Bool.{Bool, true, false, not, _&&_, _||_}
+use mathlib.Core.Bool.{Bool, true, false, cond, not, _&&_, _||_}
 use mathlib.Core.List.{List, []}
 use Prim.Native.Nat.{ℕ, _<_}
 use lib.Dec.{eqb, ltb}
 use lib.ListN.{getD}
-use Rattle.fabric.specs.declared.port.Input.{Input}
+use Rattle.routing.specs.declared.port.Input.{Input}
 use Rattle.fabric.specs.declared.state.State.{State}
-use Rattle.fabric.specs.Four.{four, some, _when_otherwise_}
-
-abbrev pub input : ℕ → Input
-input i = record { 0 = i }
+use Rattle.routing.specs.Four.{four, some}
+use Rattle.routing.specs.Port.{input, holderIn}
 
 -- output o is shut; output o's holder, as an input and as its number
 abbrev pub shutAt : State → ℕ → Bool
 shutAt s o = getD (s .shut) o false
 
 abbrev pub holderOf : State → ℕ → Input
-holderOf s o = getD (s .holders) o (input 0)
+holderOf s o = holderIn (s .holders) o
 
 abbrev pub holderAt : State → ℕ → ℕ
 holderAt s o = holderOf s o .0
@@ -50,6 +48,11 @@ zeroRow = four (λ i. 0)
 
 abbrev pub resetRows : List (List ℕ)
 resetRows = four (λ r. zeroRow)
+
+-- A refusal's number where its condition holds, otherwise what comes later in the order.
+infixr 5 _when_otherwise_
+abbrev pub _when_otherwise_ : ℕ → Bool → ℕ → ℕ
+n when b otherwise m = cond b n m
 
 -- 14: a holder above 3
 abbrev pub holderAbove : State → Bool

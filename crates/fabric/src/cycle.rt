@@ -1,16 +1,15 @@
 // Rules 1, 2, 5, 6 and 7, and a single cycle.
 ghost use mathlib.Core.Path.{_≡_};
 ghost use mathlib.Core.Bool.{_&&_};
-ghost use Rattle.fabric.specs.Four.{four};
-ghost use Rattle.fabric.specs.Route.{asked};
+ghost use Rattle.routing.specs.Four.{four};
+ghost use Rattle.routing.specs.Route.{asked};
 ghost use Rattle.fabric.specs.State.{shutAt, holderOf};
 ghost use Rattle.fabric.specs.Cycle.{machine, acked, holderAfter, waitingAfter, shutAfter, stateAfter, switchByte, rowsAfter, stepOf, refusedCycle, cycleOf};
-use super::port::Input;
-use super::port::Output;
-use super::route;
-use super::route::Report;
 use super::state;
 use super::state::State;
+use routing::Input;
+use routing::Output;
+use routing::Report;
 
 // The inputs of a cycle: frame start, four bytes, four output acknowledgements.
 pub struct Inputs {
@@ -61,8 +60,8 @@ fn holder_after(routing: bool, headers: [u8; 4], o: Output, holder: Input) -> In
     if !routing {
         return holder;
     }
-    if route::asked(headers, o) {
-        route::winner(headers, o, holder)
+    if routing::asked(headers, o) {
+        routing::winner(headers, o, holder)
     } else {
         holder
     }
@@ -97,7 +96,7 @@ fn opening(routing: bool, headers: [u8; 4], o: Output) -> bool
     ensures { λ r. ⌜ r ≡ (routing && asked headers (o .0)) ⌝ }
 {
     if routing {
-        route::asked(headers, o)
+        routing::asked(headers, o)
     } else {
         false
     }
@@ -132,7 +131,7 @@ fn holders_after(s: State, headers: [u8; 4], routing: bool) -> [Input; 4]
 fn state_after(s: State, headers: [u8; 4], frame_start: bool) -> State
     ensures { λ r. ⌜ r ≡ stateAfter s headers «frame_start» ⌝ }
 {
-    let routing = route::routes(s, headers);
+    let routing = routing::routes(s.waiting, headers);
     let shut = shut_flags_after(s, headers, frame_start, routing);
     let holders = holders_after(s, headers, routing);
     State {
@@ -176,6 +175,7 @@ pub fn step(s: State, rows: [[u8; 4]; 4], i: Inputs) -> Cycled
     let bytes = i.bytes;
     let acks = i.acks;
     let headers = rows[1];
+    let holders = s.holders;
     let state = state_after(s, headers, frame);
     let next = rows_after(s, rows, bytes);
     let first = next[0];
@@ -184,7 +184,7 @@ pub fn step(s: State, rows: [[u8; 4]; 4], i: Inputs) -> Cycled
     let heads = next[3];
     Cycled {
         number: 0,
-        report: route::reported(s, headers),
+        report: routing::reported(s.waiting, holders, headers),
         acks: acks_to(s, acks),
         shown: rows[3],
         state,

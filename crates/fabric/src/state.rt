@@ -2,7 +2,7 @@
 ghost use mathlib.Core.Path.{_≡_};
 ghost use mathlib.Core.List.{[], _∷_};
 ghost use Rattle.fabric.specs.State.{resetState, resetRows, holderAbove, openWhileWaiting, heldTwice, stateRefusal};
-use super::port::Input;
+use routing::Input;
 
 pub struct State {
     pub waiting: bool,

@@ -7,18 +7,19 @@ use Prim.Native.Nat.{ℕ, zero, suc, _<_}
 use native.Mathlib.Omega.{arith}
 use lib.Dec.{eqb}
 use borrow.Author.Tests.{ne-eqb, not-false}
-use Rattle.fabric.specs.declared.port.Input.{Input}
+use Rattle.routing.specs.declared.port.Input.{Input}
 use Rattle.fabric.specs.declared.state.State.{State}
-use Rattle.fabric.specs.Four.{some}
-use Rattle.fabric.specs.Header.{outputAsked, headerOf, someActive}
-use Rattle.fabric.specs.State.{input, shutAt, holderOf, holderAt, secondRow, openWhileWaiting, shareHolder, stateRefusal}
-use Rattle.fabric.specs.Route.{asked, winner, routes}
+use Rattle.routing.specs.Four.{some}
+use Rattle.routing.specs.Header.{outputAsked, headerOf, someActive}
+use Rattle.routing.specs.Port.{input}
+use Rattle.fabric.specs.State.{shutAt, holderOf, holderAt, secondRow, openWhileWaiting, shareHolder, stateRefusal}
+use Rattle.routing.specs.Route.{asked, winner, routes}
 use Rattle.fabric.specs.Cycle.{shutAfter, stateAfter}
 use Rattle.fabric.specs.Run.{runOf}
-use Rattle.fabric.proofs.Fours.{no-at, none-of, and-left}
+use Rattle.routing.proofs.Fours.{no-at, none-of, and-left}
 use Rattle.fabric.proofs.States.{held-at, not-open-waiting, not-twice}
 use Rattle.fabric.proofs.Steps.{waiting-step, shut-step, holder-step, no-pair, accepted-of}
-use Rattle.fabric.proofs.Winners.{winner-lt, winner-output}
+use Rattle.routing.proofs.Winners.{winner-lt, winner-output}
 use Rattle.promises.specs.Accepted.{Accepted, ResetAccepted, CycleAccepted, RunAccepted}
 
 and-no-left : (a b : Bool) → a ≡ false → (a && b) ≡ false
@@ -39,7 +40,7 @@ module _ (s : State) (headers : List ℕ) (frame : Bool) (ok : Accepted s) where
   next = stateAfter s headers frame
 
   below : (o : ℕ) → o < 4 → holderAt next o < 4
-  below o h = subst (λ (x : Input). x .0 < 4) (sym (holder-step s headers frame o h)) (go (routes s headers) (asked headers o) refl)
+  below o h = subst (λ (x : Input). x .0 < 4) (sym (holder-step s headers frame o h)) (go (routes (s .waiting) headers) (asked headers o) refl)
     where
       go : (r a : Bool) → asked headers o ≡ a → cond (r && a) (input (winner headers o (holderAt s o))) (holderOf s o) .0 < 4
       go true true e = winner-lt headers o (holderAt s o) e
@@ -50,14 +51,14 @@ module _ (s : State) (headers : List ℕ) (frame : Bool) (ok : Accepted s) where
   shut-started : frame ≡ true → (o : ℕ) → o < 4 → shutAt next o ≡ true
   shut-started f o h = shut-step s headers frame o h ∙ rw f
 
-  shut-kept : frame ≡ false → routes s headers ≡ false → (o : ℕ) → o < 4 → shutAt next o ≡ shutAt s o
+  shut-kept : frame ≡ false → routes (s .waiting) headers ≡ false → (o : ℕ) → o < 4 → shutAt next o ≡ shutAt s o
   shut-kept f r o h = shut-step s headers frame o h ∙ rw (f, r)
 
-  shut-routed : frame ≡ false → routes s headers ≡ true → (o : ℕ) → o < 4 → shutAt next o ≡ not (asked headers o)
+  shut-routed : frame ≡ false → routes (s .waiting) headers ≡ true → (o : ℕ) → o < 4 → shutAt next o ≡ not (asked headers o)
   shut-routed f r o h =
       shut-step s headers frame o h
-      ∙ ap (λ (b : Bool). shutAfter frame (routes s headers && asked headers o) b) (all-shut s ok (and-left (s .waiting) (someActive headers) r) o h)
-      ∙ ap (λ (b : Bool). shutAfter b (routes s headers && asked headers o) true) f
+      ∙ ap (λ (b : Bool). shutAfter frame (routes (s .waiting) headers && asked headers o) b) (all-shut s ok (and-left (s .waiting) (someActive headers) r) o h)
+      ∙ ap (λ (b : Bool). shutAfter b (routes (s .waiting) headers && asked headers o) true) f
       ∙ ap (λ (b : Bool). shutAfter false (b && asked headers o) true) r
       ∙ flips (asked headers o)
     where
@@ -66,9 +67,9 @@ module _ (s : State) (headers : List ℕ) (frame : Bool) (ok : Accepted s) where
       flips false = refl
 
   waits-shut : openWhileWaiting next ≡ false
-  waits-shut = go frame (routes s headers) refl refl
+  waits-shut = go frame (routes (s .waiting) headers) refl refl
     where
-      go : (f r : Bool) → frame ≡ f → routes s headers ≡ r → openWhileWaiting next ≡ false
+      go : (f r : Bool) → frame ≡ f → routes (s .waiting) headers ≡ r → openWhileWaiting next ≡ false
       go true r ef er = and-no-right (next .waiting) (some (λ o. not (shutAt next o))) (none-of (λ o. not (shutAt next o)) (λ o h. ap not (shut-started ef o h)))
       go false true ef er = and-no-left (next .waiting) (some (λ o. not (shutAt next o))) (waiting-step s headers frame ∙ rw (ef, er))
       go false false ef er = still (s .waiting) refl
@@ -84,19 +85,19 @@ module _ (s : State) (headers : List ℕ) (frame : Bool) (ok : Accepted s) where
       → (not sa && not sb && eqb ha hb) ≡ false → shareHolder next a b ≡ false
   share a b p q r t e = rw (p, q, r, t) e
 
-  holder-kept : routes s headers ≡ false → (o : ℕ) → o < 4 → holderAt next o ≡ holderAt s o
+  holder-kept : routes (s .waiting) headers ≡ false → (o : ℕ) → o < 4 → holderAt next o ≡ holderAt s o
   holder-kept r o h = ap (λ (x : Input). x .0) (holder-step s headers frame o h ∙ rw r)
 
-  holder-won : routes s headers ≡ true → (o : ℕ) → o < 4 → asked headers o ≡ true → holderAt next o ≡ winner headers o (holderAt s o)
+  holder-won : routes (s .waiting) headers ≡ true → (o : ℕ) → o < 4 → asked headers o ≡ true → holderAt next o ≡ winner headers o (holderAt s o)
   holder-won r o h a = ap (λ (x : Input). x .0) (holder-step s headers frame o h ∙ rw (r, a))
 
   apart : (a b : ℕ) → a < b → b < 4 → shareHolder next a b ≡ false
-  apart a b less hb = go frame (routes s headers) refl refl
+  apart a b less hb = go frame (routes (s .waiting) headers) refl refl
     where
       ha : a < 4
       ha = omega arith
 
-      go : (f r : Bool) → frame ≡ f → routes s headers ≡ r → shareHolder next a b ≡ false
+      go : (f r : Bool) → frame ≡ f → routes (s .waiting) headers ≡ r → shareHolder next a b ≡ false
       go true r ef er = share a b (shut-started ef a ha) refl refl refl refl
       go false false ef er =
           share a b (shut-kept ef er a ha) (shut-kept ef er b hb) (holder-kept er a ha) (holder-kept er b hb) (no-pair s (not-twice s ok) a b less hb)

@@ -11,9 +11,9 @@ use borrow.Author.Tests.{ltb-true, ltb-false}
 use Rattle.fabric.specs.Cycle.{Machine}
 use Rattle.fabric.specs.Run.{runOf}
 use Rattle.fabric.proofs.Runs.{run-cut, run-same}
-use Rattle.layout.specs.Record.{byteAt, spareSet, inputsFrom}
-use Rattle.layout.specs.Answers.{answersOf}
-use Rattle.layout.proofs.Answered.{answers-length, answers-cut, answers-same}
+use Rattle.records.specs.Record.{byteAt, spareSet, inputsFrom}
+use Rattle.records.specs.Answers.{answersOf}
+use Rattle.records.proofs.Answered.{answers-length, answers-cut, answers-same}
 use Rattle.capture.specs.declared.refusal.Judged.{Judged}
 use Rattle.capture.specs.Capture.{records, fiveAt, recordAt, inputsIn}
 use Rattle.capture.specs.Refusal.{bad, firstBad}

@@ -10,17 +10,19 @@ use lib.Dec.{eqb, lit<}
 use lib.ListN.{length, getD, take, drop}
 use lib.Seq.{take-at}
 use Rattle.fabric.specs.declared.state.State.{State}
-use Rattle.fabric.specs.Four.{bit}
-use Rattle.fabric.specs.State.{input, shutAt, holderAt, Held, firstRow, secondRow, switchRow, headRow, stateRefusal}
+use Rattle.routing.specs.Four.{bit}
+use Rattle.routing.specs.Port.{input}
+use Rattle.fabric.specs.State.{shutAt, holderAt, Held, firstRow, secondRow, switchRow, headRow, stateRefusal}
 use Rattle.fabric.specs.Cycle.{Machine}
 use Rattle.fabric.proofs.Calls.{answered}
-use Rattle.fabric.proofs.Equal.{row-of, state-of}
+use Rattle.fabric.proofs.Equal.{state-of}
+use Rattle.routing.proofs.Equal.{row-of}
 use Rattle.fabric.proofs.States.{held}
-use Rattle.layout.specs.declared.saved.TakenUp.{TakenUp}
-use Rattle.layout.specs.Saved.{wordOf, savedOf, saveRefusal, saveWrites, wordIn, stateIn, takeUpRefusal, takenUp, takeUpOf}
-use Rattle.layout.proofs.Equal.{taken-up}
-use Rattle.layout.proofs.Keeps.{save-done, written-as, number-7-8, take-up-done, save-refusal-of}
-use Rattle.layout.proofs.Places.{spelt}
+use Rattle.saved.specs.declared.taking_up.TakenUp.{TakenUp}
+use Rattle.saved.specs.Saved.{wordOf, savedOf, saveRefusal, saveWrites, wordIn, stateIn, takeUpRefusal, takenUp, takeUpOf}
+use Rattle.saved.proofs.Equal.{taken-up}
+use Rattle.saved.proofs.Keeps.{save-done, written-as, number-7-8, take-up-done, save-refusal-of}
+use Rattle.records.proofs.Places.{spelt}
 use Rattle.promises.specs.Kept.{FourOfEach, takenUpAs, machineIn, SavedTakenUp, TakenUpSaved}
 
 bit-le : (b : Bool) → bit b ≤ 1

@@ -7,13 +7,13 @@ use native.Mathlib.Omega.{arith}
 use lib.Dec.{T, eqb, eqb→eq}
 use lib.ListN.{getD}
 use Rattle.fabric.specs.declared.cycle.Inputs.{Inputs}
-use Rattle.fabric.specs.Four.{four, bit, bitAt}
-use Rattle.fabric.proofs.Equal.{two, row-of}
-use Rattle.fabric.proofs.Masks.{in-mask}
-use Rattle.fabric.proofs.Tests.{Range, flag, upto, everywhere, beq→eq}
-use Rattle.layout.specs.declared.record.Answer.{Answer}
-use Rattle.layout.specs.Record.{flagAt, spareSet}
-use Rattle.layout.proofs.Places.{spelt}
+use Rattle.routing.specs.Four.{four, bit, bitAt}
+use Rattle.routing.proofs.Equal.{two, row-of}
+use Rattle.routing.proofs.Masks.{in-mask}
+use Rattle.routing.proofs.Tests.{Range, flag, upto, everywhere, beq→eq}
+use Rattle.records.specs.declared.record.Answer.{Answer}
+use Rattle.records.specs.Record.{flagAt, spareSet}
+use Rattle.records.proofs.Places.{spelt}
 use Rattle.promises.specs.Kept.{RecordRead, RecordMade, AnswerRead, AnswerMade}
 
 -- byte 0 of a capture record, from a frame start and four acknowledgements

@@ -7,9 +7,9 @@ use lib.ListN.{length, getD, take}
 use Rattle.fabric.specs.declared.cycle.Inputs.{Inputs}
 use Rattle.fabric.specs.State.{firstRow, secondRow, switchRow, headRow}
 use Rattle.fabric.specs.Cycle.{Machine, machine}
-use Rattle.layout.specs.declared.saved.TakenUp.{TakenUp}
-use Rattle.layout.specs.Record.{inputsFrom, recordOf, spareSet, answerBytes, answerFrom}
-use Rattle.layout.specs.Saved.{saveRefusal, saveWrites, takeUpRefusal, takeUpOf}
+use Rattle.saved.specs.declared.taking_up.TakenUp.{TakenUp}
+use Rattle.records.specs.Record.{inputsFrom, recordOf, spareSet, answerBytes, answerFrom}
+use Rattle.saved.specs.Saved.{saveRefusal, saveWrites, takeUpRefusal, takeUpOf}
 
 -- Four flags, four holders and four rows of four, as every state and every array of rows of the code has them: the logic's lists
 -- alone could be of any length.

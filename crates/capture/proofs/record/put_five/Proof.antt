@@ -3,7 +3,7 @@ use native.Mathlib.Numerals.{add-one}
 use native.Mathlib.Omega.{arith}
 use lib.ListN.{length-set}
 use lib.Seq.{sets}
-use Rattle.layout.proofs.Places.{add-two, add-three, add-four, spelt}
+use Rattle.records.proofs.Places.{add-two, add-three, add-four, spelt}
 use borrow.Author.Needs.{needs}
 use Rattle.capture.proofs.record.put_five.Statement.{statement}
 use Rattle.capture.proofs.record.put_five.Tie as tie

@@ -2,7 +2,7 @@ use mathlib.Core.Path.{_≡_, sym, ap, _∙_}
 use Prim.Native.Nat.{_-_}
 use native.Mathlib.Omega.{arith}
 use borrow.Author.Needs.{needs}
-use Rattle.layout.specs.Record.{spareSet}
+use Rattle.records.specs.Record.{spareSet}
 use Rattle.capture.specs.Capture.{records}
 use Rattle.capture.specs.Refusal.{firstBad}
 use Rattle.capture.proofs.Records.{first-byte}

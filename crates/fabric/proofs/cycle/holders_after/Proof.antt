@@ -1,4 +1,4 @@
-use Rattle.fabric.proofs.Equal.{row-of}
+use Rattle.routing.proofs.Equal.{row-of}
 use borrow.Author.Needs.{needs}
 use Rattle.fabric.proofs.cycle.holders_after.Statement.{statement}
 use Rattle.fabric.proofs.cycle.holders_after.Tie as tie

@@ -1,5 +1,5 @@
 use mathlib.Core.Path.{refl}
-use Rattle.fabric.proofs.Equal.{row-of}
+use Rattle.routing.proofs.Equal.{row-of}
 use Rattle.fabric.specs.Cycle.{rowsAfter}
 use borrow.Author.Needs.{needs}
 use Rattle.fabric.proofs.cycle.rows_after.Statement.{statement}

@@ -1,4 +1,4 @@
-use Rattle.fabric.proofs.Equal.{row-of}
+use Rattle.routing.proofs.Equal.{row-of}
 use Rattle.fabric.proofs.Cycles.{flags-made}
 use borrow.Author.Needs.{needs}
 use Rattle.fabric.proofs.cycle.shut_flags_after.Statement.{statement}

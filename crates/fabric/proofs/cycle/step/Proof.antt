@@ -6,7 +6,7 @@ use Rattle.fabric.proofs.cycle.step.Tie as tie
 
 returns : tie.Need-returns
 returns c =
-    let a = c .before .before .before .before .before .before .before .before .before .before .before .before .args in
+    let a = c .before .before .before .before .before .before .before .before .before .before .before .before .before .args in
     let next = c .before .before .before .before .before .before .before .rows-after in
     step-made (machine (a .s) (a .t2)) (a .i) (next .result) (c .before .before .reported .ensures) (c .before .acks-to .ensures) (c .before .before .before .before .before .before .before .before .state-after .ensures) (next .ensures)
 

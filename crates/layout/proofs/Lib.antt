@@ -1,4 +1,0 @@
-pub mod Places
-pub mod Equal
-pub mod Keeps
-pub mod Answered

@@ -1,0 +1,5 @@
+pub mod Four
+pub mod Port
+pub mod Header
+pub mod Turn
+pub mod Route
