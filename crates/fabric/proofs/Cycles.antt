@@ -3,17 +3,15 @@ use mathlib.Core.Bool.{Bool, true, false, _&&_}
 use mathlib.Core.Path.{_≡_, sym, ap, _∙_}
 use mathlib.Core.List.{List, [], _∷_}
 use Prim.Native.Nat.{ℕ}
-use lib.ListN.{getD}
 use Rattle.routing.specs.declared.port.Input.{Input}
 use Rattle.fabric.specs.declared.state.State.{State}
 use Rattle.routing.specs.declared.route.Report.{Report}
 use Rattle.fabric.specs.declared.cycle.Inputs.{Inputs}
-use Rattle.fabric.specs.declared.cycle.Cycled.{Cycled}
 use Rattle.routing.specs.Four.{four}
-use Rattle.fabric.specs.State.{shutAt, holderOf, secondRow}
+use Rattle.fabric.specs.State.{shutAt, holderOf, firstRow, secondRow, switchRow}
 use Rattle.routing.specs.Port.{input}
 use Rattle.routing.specs.Route.{asked, winner, routes}
-use Rattle.fabric.specs.Cycle.{Machine, shown, acked, report, holderAfter, waitingAfter, shutAfter, stateAfter, rowsAfter, stepOf}
+use Rattle.fabric.specs.Cycle.{Machine, shown, acked, report, holderAfter, waitingAfter, shutAfter, stateAfter, switchAfter, rowsAfter, stepOf}
 use Rattle.fabric.proofs.Equal.{state-of}
 
 -- rule 4, for one output: without a routing, with one and an asker, with one and none
@@ -50,21 +48,20 @@ module _ (s : State) (headers : List ℕ) (frame : Bool) where
   unfolding stateAfter
   state-made is p q r = state-of p q r ∙ ap after is
 
-abbrev made : Report → List Bool → List ℕ → State → List (List ℕ) → Cycled
-made r acks shown s rows = record {
-  number = 0;
-  report = r;
-  acks = acks;
-  shown = shown;
-  state = s;
-  first = getD rows 0 [];
-  second = getD rows 1 [];
-  switched = getD rows 2 [];
-  heads = getD rows 3 [];
-}
-
-pub step-made : (m : Machine) (i : Inputs) {r : Report} {acks : List Bool} {s : State} (rows : List (List ℕ))
+-- a cycle's answer
+pub step-made : (m : Machine) (i : Inputs) {r : Report} {acks : List Bool} {s : State} {switched : List ℕ}
     → r ≡ report m → acks ≡ four (acked (m .state) (i .acks)) → s ≡ stateAfter (m .state) (secondRow (m .rows)) (i .frame)
-    → rows ≡ rowsAfter (m .state) (m .rows) (i .bytes)
-    → made r acks (shown m) s rows ≡ stepOf m i
-step-made m i rows p q t u = cc
+    → switched ≡ four (switchAfter (m .state) (secondRow (m .rows)))
+    → record {
+      number = 0;
+      report = r;
+      acks = acks;
+      shown = shown m;
+      state = s;
+      first = i .bytes;
+      second = firstRow (m .rows);
+      switched = switched;
+      heads = switchRow (m .rows);
+    } ≡ stepOf m i
+unfolding rowsAfter
+step-made m i p q t u = cc

@@ -4,7 +4,7 @@ ghost use mathlib.Core.Bool.{_&&_};
 ghost use Rattle.routing.specs.Four.{four};
 ghost use Rattle.routing.specs.Route.{asked};
 ghost use Rattle.fabric.specs.State.{shutAt, holderOf};
-ghost use Rattle.fabric.specs.Cycle.{machine, acked, holderAfter, waitingAfter, shutAfter, stateAfter, switchByte, rowsAfter, stepOf, refusedCycle, cycleOf};
+ghost use Rattle.fabric.specs.Cycle.{machine, acked, holderAfter, waitingAfter, shutAfter, stateAfter, switchByte, switchAfter, stepOf, refusedCycle, cycleOf};
 use super::state;
 use super::state::State;
 use routing::Input;
@@ -152,66 +152,53 @@ fn switch_byte(shut: bool, holder: Input, second: [u8; 4]) -> u8
     if h < 4 { second[h] } else { 0 }
 }
 
-fn rows_after(s: State, rows: [[u8; 4]; 4], bytes: [u8; 4]) -> [[u8; 4]; 4]
-    ensures { λ r. ⌜ r ≡ rowsAfter s rows bytes ⌝ }
+// Rule 7's next switch bytes.
+fn switch_row(s: State, second: [u8; 4]) -> [u8; 4]
+    ensures { λ r. ⌜ r ≡ four (switchAfter s second) ⌝ }
 {
-    let first = rows[0];
-    let second = rows[1];
-    let switched = rows[2];
-    let next = [
+    [
         switch_byte(s.shut[0], s.holders[0], second),
         switch_byte(s.shut[1], s.holders[1], second),
         switch_byte(s.shut[2], s.holders[2], second),
         switch_byte(s.shut[3], s.holders[3], second),
-    ];
-    [bytes, first, next, switched]
+    ]
 }
 
-// Rules 1 to 7, for any state and rows.
+// Rules 1 to 7, for any state and rows. The rows move on by one: input bytes, first latches, second latches, switch bytes, head bytes.
 pub fn step(s: State, rows: [[u8; 4]; 4], i: Inputs) -> Cycled
     ensures { λ r. ⌜ r ≡ stepOf (machine s rows) i ⌝ }
 {
-    let frame = i.frame;
-    let bytes = i.bytes;
-    let acks = i.acks;
     let headers = rows[1];
+    let state = state_after(s, headers, i.frame);
     let holders = s.holders;
-    let state = state_after(s, headers, frame);
-    let next = rows_after(s, rows, bytes);
-    let first = next[0];
-    let second = next[1];
-    let switched = next[2];
-    let heads = next[3];
+    let acks = i.acks;
+    let bytes = i.bytes;
     Cycled {
         number: 0,
         report: routing::reported(s.waiting, holders, headers),
         acks: acks_to(s, acks),
         shown: rows[3],
         state,
-        first,
-        second,
-        switched,
-        heads,
+        first: bytes,
+        second: rows[0],
+        switched: switch_row(s, headers),
+        heads: rows[2],
     }
 }
 
 fn refused(number: u8, s: State, rows: [[u8; 4]; 4]) -> Cycled
     ensures { λ r. ⌜ r ≡ refusedCycle number (machine s rows) ⌝ }
 {
-    let first = rows[0];
-    let second = rows[1];
-    let switched = rows[2];
-    let heads = rows[3];
     Cycled {
         number,
         report: Report::NoRouting,
         acks: [false; 4],
         shown: [0; 4],
         state: s,
-        first,
-        second,
-        switched,
-        heads,
+        first: rows[0],
+        second: rows[1],
+        switched: rows[2],
+        heads: rows[3],
     }
 }
 
