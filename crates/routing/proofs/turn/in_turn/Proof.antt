@@ -3,8 +3,7 @@ use mathlib.Core.Path.{_≡_, ap, _∙_}
 use mathlib.Core.List.{[], _∷_}
 use Prim.Native.Nat.{ℕ, _+_, _*_, _/_, _%_, _^_, _<_}
 use native.Mathlib.Nat.{mod-lt}
-use native.Mathlib.Omega.{arith}
-use lib.Count.{trailingZeros, trailing-le}
+use lib.Count.{trailingZeros}
 use lib.Dec.{eqb, eqb→eq, lit<}
 use Rattle.routing.specs.Four.{bitAt}
 use Rattle.routing.specs.Turn.{inTurn}
@@ -14,10 +13,6 @@ use Rattle.routing.proofs.Turns.{turn-mod}
 use borrow.Author.Needs.{needs}
 use Rattle.routing.proofs.turn.in_turn.Statement.{statement}
 use Rattle.routing.proofs.turn.in_turn.Tie as tie
-
-add-t9 : tie.Need-add-t9
-add-t9 c =
-    omega (arith, trailing-le 32 (c .before .args .mask * 17 / 2 ^ (c .before .args .holder .0 % 4 + 1) % 8 + 8))
 
 -- what the code computes of a mask and a holder below 4
 abbrev code : ℕ → ℕ → ℕ
@@ -31,12 +26,13 @@ code-turn m h below-16 below-4 =
 
 returns : tie.Need-returns
 returns c =
-    let m = c .before .args .mask in
-    let h = c .before .args .holder .0 in
-    ap input (code-turn m (h % 4) (c .before .pre) (mod-lt h (lit< tt)) ∙ turn-mod (λ i. bitAt i m) h)
+    let m = c .before .before .args .mask in
+    let h = c .before .before .args .holder .0 in
+    ap (λ (n : ℕ). input ((h % 4 + 1 + n) % 4)) (c .passed .ensures .0)
+    ∙ ap input (code-turn m (h % 4) (c .before .before .pre) (mod-lt h (lit< tt)) ∙ turn-mod (λ i. bitAt i m) h)
 
 pub in-turn-spec : {M : Type 1} → statement M
 in-turn-spec =
     tie.close
-    (tie.spec (λ c. search needs) (λ c. search needs) (λ c. search needs) (λ c. search needs) (λ c. search needs) (λ c. search needs) add-t9
+    (tie.spec (λ c. search needs) (λ c. search needs) (λ c. search needs) (λ c. search needs) (λ c κs. search needs) (λ c. search needs)
     (λ c. search needs) returns)
