@@ -8,8 +8,7 @@ use lib.Dec.{eqb, ltb}
 use lib.ListN.{length}
 use borrow.Author.Tests.{eq-eqb, ne-eqb, eqb-true, lt-ltb, le-ltb, ltb-false}
 use Rattle.fabric.specs.declared.state.State.{State}
-use Rattle.fabric.specs.State.{_when_otherwise_}
-use Rattle.fabric.specs.State.{stateRefusal}
+use Rattle.fabric.specs.State.{_when_otherwise_, stateRefusal}
 use Rattle.fabric.proofs.Calls.{by-first, by-later, both-zero}
 use Rattle.capture.specs.declared.refusal.Judged.the-variants.{Refused, Done}
 use Rattle.capture.specs.Capture.{records}

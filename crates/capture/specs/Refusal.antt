@@ -5,8 +5,7 @@ use Prim.Native.Nat.{ℕ, zero, suc, _%_}
 use lib.Dec.{eqb, ltb}
 use lib.ListN.{length}
 use Rattle.fabric.specs.declared.state.State.{State}
-use Rattle.fabric.specs.State.{_when_otherwise_}
-use Rattle.fabric.specs.State.{stateRefusal}
+use Rattle.fabric.specs.State.{_when_otherwise_, _orElse_, stateRefusal}
 use Rattle.records.specs.Record.{byteAt, spareSet}
 use Rattle.capture.specs.declared.refusal.Judged.{Judged}
 use Rattle.capture.specs.declared.refusal.Judged.the-variants.{Refused, Done}
@@ -19,7 +18,7 @@ limit = 12288
 -- the refusals that come before 3
 unfoldable pub earlyRefusal : State → List ℕ → ℕ → ℕ
 earlyRefusal s capture room =
-    stateRefusal s when not (eqb (stateRefusal s) 0) otherwise
+    stateRefusal s orElse
     1 when not (eqb (length capture % 5) 0) otherwise
     4 when ltb limit (records capture) otherwise
     2 when ltb room (length capture) otherwise

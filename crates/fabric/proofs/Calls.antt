@@ -5,7 +5,7 @@ use Prim.Native.Nat.{ℕ}
 use native.Mathlib.Omega.{arith}
 use lib.Dec.{eqb}
 use borrow.Author.Tests.{eq-eqb, ne-eqb, eqb-true}
-use Rattle.fabric.specs.State.{_when_otherwise_}
+use Rattle.fabric.specs.State.{_when_otherwise_, _orElse_}
 
 module _ {A : Type 0} {number n : ℕ} (is : n ≡ number) (x : A) where
   pub answered : (y : A) → n ≡ 0 → x ≡ cond (eqb number 0) x y
@@ -16,14 +16,14 @@ module _ {A : Type 0} {number n : ℕ} (is : n ≡ number) (x : A) where
 
 -- an order of refusals that begins with those of another order
 module _ {first n : ℕ} (is : n ≡ first) (later : ℕ) where
-  pub by-first : (n ≡ 0 → ⊥) → n ≡ (first when not (eqb first 0) otherwise later)
+  pub by-first : (n ≡ 0 → ⊥) → n ≡ (first orElse later)
   by-first h = is ∙ rw (ne-eqb _ _ (λ z. h (is ∙ z)))
 
-  pub by-later : n ≡ 0 → later ≡ (first when not (eqb first 0) otherwise later)
+  pub by-later : n ≡ 0 → later ≡ (first orElse later)
   by-later z = rw (eq-eqb _ _ (sym is ∙ z))
 
 -- where such an order comes to 0, both parts do
-pub both-zero : (first later : ℕ) → (first when not (eqb first 0) otherwise later) ≡ 0 → (first ≡ 0) × (later ≡ 0)
+pub both-zero : (first later : ℕ) → (first orElse later) ≡ 0 → (first ≡ 0) × (later ≡ 0)
 both-zero first later e = go (eqb first 0) refl e
   where
     go : (b : Bool) → eqb first 0 ≡ b → (first when not b otherwise later) ≡ 0 → (first ≡ 0) × (later ≡ 0)

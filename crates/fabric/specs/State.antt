@@ -49,10 +49,14 @@ zeroRow = four (λ i. 0)
 abbrev pub resetRows : List (List ℕ)
 resetRows = four (λ r. zeroRow)
 
--- A refusal's number where its condition holds, otherwise what comes later in the order.
+-- Orders of refusals: a number where its condition holds, otherwise what comes later; a call's number, or else what comes later where it is 0.
 infixr 5 _when_otherwise_
 abbrev pub _when_otherwise_ : ℕ → Bool → ℕ → ℕ
 n when b otherwise m = cond b n m
+
+infixr 5 _orElse_
+abbrev pub _orElse_ : ℕ → ℕ → ℕ
+n orElse m = n when not (eqb n 0) otherwise m
 
 -- 14: a holder above 3
 abbrev pub holderAbove : State → Bool

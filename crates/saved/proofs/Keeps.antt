@@ -9,8 +9,7 @@ use lib.ListN.{length, drop}
 use lib.Seq.{sets, sets-eq}
 use borrow.Author.Tests.{eq-eqb, ne-eqb, eqb-true, le-ltb, ltb-false}
 use Rattle.fabric.specs.declared.state.State.{State}
-use Rattle.fabric.specs.State.{_when_otherwise_}
-use Rattle.fabric.specs.State.{firstRow, secondRow, switchRow, headRow, stateRefusal}
+use Rattle.fabric.specs.State.{_when_otherwise_, firstRow, secondRow, switchRow, headRow, stateRefusal}
 use Rattle.fabric.specs.Cycle.{Machine}
 use Rattle.saved.specs.Saved.{rowBytes, savedBytes, savedOf, saveRefusal, saveWrites, wordIn, stateIn, takeUpRefusal}
 use Rattle.fabric.proofs.Calls.{both-zero}

@@ -7,9 +7,8 @@ use lib.ListN.{length, drop}
 use Rattle.fabric.specs.declared.state.State.{State}
 use Rattle.saved.specs.declared.taking_up.TakenUp.{TakenUp}
 use Rattle.routing.specs.Four.{four, bit, bitAt}
-use Rattle.fabric.specs.State.{_when_otherwise_}
 use Rattle.routing.specs.Port.{input}
-use Rattle.fabric.specs.State.{shutAt, holderAt, firstRow, secondRow, switchRow, headRow, resetState, zeroRow, stateRefusal}
+use Rattle.fabric.specs.State.{shutAt, holderAt, firstRow, secondRow, switchRow, headRow, resetState, zeroRow, _when_otherwise_, _orElse_, stateRefusal}
 use Rattle.fabric.specs.Cycle.{Machine}
 use Rattle.records.specs.Record.{byteAt}
 
@@ -34,7 +33,7 @@ savedOf m = savedBytes (wordOf (m .state)) (m .rows)
 
 -- saving: refusals 14, 7, 8, 9
 unfoldable pub saveRefusal : State → ℕ → ℕ
-saveRefusal s room = stateRefusal s when not (eqb (stateRefusal s) 0) otherwise 9 when ltb room 18 otherwise 0
+saveRefusal s room = stateRefusal s orElse 9 when ltb room 18 otherwise 0
 
 -- the buffer after saving: the 18 bytes and, beyond them, what stood there; a refusal leaves all
 unfoldable pub saveWrites : Machine → List ℕ → List ℕ
