@@ -42,8 +42,10 @@ replay-refused m capture buffer n k e = record {
 }
 
 pub empty-replay : EmptyReplay
-unfolding runOf answersOf
-empty-replay m buffer e = (refl, ap (λ (j : Judged). writtenAs j m [] buffer) e)
+unfolding runOf answersOf firstBad
+empty-replay m buffer ok =
+    let e = is-done (m .state) [] (length buffer) (record { accepted = ok; whole = refl; few = omega arith; fits = omega arith; good = omega arith }) in
+    record { is-done = e; same-machine = refl; same-buffer = ap (λ (j : Judged). writtenAs j m [] buffer) e }
 
 -- ---- the records of two captures joined
 

@@ -9,6 +9,7 @@ use Rattle.records.specs.Answers.{answersOf}
 use Rattle.capture.specs.declared.refusal.Judged.the-variants.{Refused, Done}
 use Rattle.capture.specs.Capture.{records, inputsIn}
 use Rattle.capture.specs.Refusal.{limit, judged}
+use Rattle.promises.specs.Accepted.{Accepted}
 use Rattle.capture.specs.Replay.{endOf, answers, handedBack, replayOf, replayWrites}
 
 -- A replay that is done hands back the machine at the end of the run of its records, with number and index 0, and writes the
@@ -31,8 +32,13 @@ ReplayRefused =
     (m : Machine) (capture buffer : List ℕ) (n k : ℕ) → judged (m .state) capture (length buffer) ≡ Refused n k → IsRefused m capture buffer n k
 
 -- An empty capture is done and changes nothing, wherever the state is accepted.
+pub record ChangesNothing (m : Machine) (buffer : List ℕ) : Type 0 where
+  pub is-done : judged (m .state) [] (length buffer) ≡ Done
+  pub same-machine : endOf m [] ≡ m
+  pub same-buffer : replayWrites m [] buffer ≡ buffer
+
 abbrev pub EmptyReplay : Type 0
-EmptyReplay = (m : Machine) (buffer : List ℕ) → judged (m .state) [] (length buffer) ≡ Done → (endOf m [] ≡ m) × (replayWrites m [] buffer ≡ buffer)
+EmptyReplay = (m : Machine) (buffer : List ℕ) → Accepted (m .state) → ChangesNothing m buffer
 
 -- The replay of two captures joined is the second replay from the first one's end.
 pub record IsJoined (m : Machine) (a b : List ℕ) (room : ℕ) : Type 0 where

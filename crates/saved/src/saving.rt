@@ -81,9 +81,9 @@ pub fn save(s: State, rows: [[u8; 4]; 4], out: &mut [u8]) -> u8
     ensures number { λ r. ⌜ r ≡ saveRefusal s (length (now (out .entry))) ⌝ }
     ensures writes { λ r. ⌜ now (out .exit) ≡ saveWrites (machine s rows) (now (out .entry)) ⌝ }
 {
-    let number = save_refusal(s, out.len());
-    if number != 0 {
-        return number;
+    let refused = save_refusal(s, out.len());
+    if refused != 0 {
+        return refused;
     }
     put_saved(out, word(s), rows);
     0
