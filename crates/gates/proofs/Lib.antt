@@ -1,0 +1,7 @@
+pub mod Counts
+pub mod Bits
+pub mod Limits
+pub mod Loops
+pub mod Meaning
+pub mod Values
+pub mod Words

@@ -45,14 +45,23 @@ fn first_fault(words: &[u32], inputs: usize) -> Fault
     while i < words.len() {
         let w = words[i];
         if word::wrong(w) {
-            return Fault { number: 11, index: i };
+            return Fault {
+                number: 11,
+                index: i,
+            };
         }
         if word::late(w, (inputs + i) as u32) {
-            return Fault { number: 12, index: i };
+            return Fault {
+                number: 12,
+                index: i,
+            };
         }
         i += 1;
     }
-    Fault { number: 0, index: 0 }
+    Fault {
+        number: 0,
+        index: 0,
+    }
 }
 
 // The nets v with net n, which was 0, set to b.

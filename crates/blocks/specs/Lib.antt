@@ -1,0 +1,9 @@
+pub mod Lines
+pub mod Kinds
+pub mod Decode
+pub mod Filter
+pub mod Phase
+pub mod Turn
+pub mod Shut
+pub mod Select
+pub mod Choose

@@ -1,0 +1,64 @@
+-- The gate engine's cycle is rules 1 to 7, for every state whose holders are inputs' numbers, and the next state's holders are again. Assumes nothing.
+use mathlib.Core.Bool.{Bool, true, false, cond, _&&_}
+use mathlib.Core.Path.{_≡_, refl, sym, ap, subst, _∙_}
+use mathlib.Core.List.{List}
+use Prim.Native.Nat.{ℕ, _<_}
+use lib.Dec.{lit<}
+use lib.ListN.{getD}
+use Rattle.routing.specs.declared.port.Input.{Input}
+use Rattle.routing.specs.Four.{four}
+use Rattle.routing.specs.Route.{asked, routes}
+use Rattle.routing.specs.Port.{input}
+use Rattle.routing.proofs.Turns.{turn-lt}
+use Rattle.routing.specs.Route.{remains, winner}
+use Rattle.fabric.specs.declared.state.State.{State}
+use Rattle.fabric.specs.declared.cycle.Inputs.{Inputs}
+use Rattle.fabric.specs.State.{holderOf, holderAt, Held, firstRow, secondRow, switchRow}
+use Rattle.fabric.specs.Cycle.{Machine, shown, acked, holderAfter, stateAfter, switchAfter, rowsAfter, stepped, stepOf}
+use Rattle.fabric.proofs.Steps.{holder-step}
+use Rattle.engine.specs.declared.cycle.GateCycled.{GateCycled}
+use Rattle.engine.specs.Cycle.{gateStepOf, unreported}
+use Rattle.engine.proofs.Control.{next-state}
+use Rattle.engine.proofs.Choices.{acks-made, switch-made}
+
+abbrev pub parts : Machine → Inputs → List Bool → State → List ℕ → GateCycled
+parts m i acks state switched = record {
+  number = 0;
+  acks = acks;
+  shown = shown m;
+  state = state;
+  first = i .bytes;
+  second = firstRow (m .rows);
+  switched = switched;
+  heads = switchRow (m .rows);
+}
+
+pub parts-of : (m : Machine) (i : Inputs) {a a' : List Bool} {s s' : State} {w w' : List ℕ} → a ≡ a' → s ≡ s' → w ≡ w' → parts m i a s w ≡ parts m i a' s' w'
+parts-of m i p q r = cc
+
+-- each second latch is a byte
+abbrev pub SecondBytes : Machine → Type 0
+SecondBytes m = (i : ℕ) → i < 4 → getD (secondRow (m .rows)) i 0 < 256
+
+pub gates-are-rules : (m : Machine) (i : Inputs) → SecondBytes m → Held (m .state) → gateStepOf m i ≡ unreported (stepOf m i)
+unfolding rowsAfter
+gates-are-rules m i bytes held =
+    parts-of m i (acks-made (m .state) held (i .acks)) (next-state (m .state) (secondRow (m .rows)) (i .frame) held)
+    (switch-made (m .state) held (secondRow (m .rows)) bytes)
+
+-- rule 4 leaves an input's number
+pub held-after : (s : State) (headers : List ℕ) (start : Bool) → Held s → Held (stateAfter s headers start)
+held-after s headers start held = record {
+  held0 = at 0 (lit< tt) (held .held0);
+  held1 = at 1 (lit< tt) (held .held1);
+  held2 = at 2 (lit< tt) (held .held2);
+  held3 = at 3 (lit< tt) (held .held3);
+}
+  where
+    either : (b : Bool) (o : ℕ) (h : Input) → h .0 < 4 → cond b (input (winner headers o (h .0))) h .0 < 4
+    either true o h l = turn-lt (remains headers o) (h .0)
+    either false o h l = l
+
+    at : (o : ℕ) → o < 4 → holderAt s o < 4 → holderAt (stateAfter s headers start) o < 4
+    at o below l =
+        subst (λ (h : Input). h .0 < 4) (sym (holder-step s headers start o below)) (either (routes (s .waiting) headers && asked headers o) o (holderOf s o) l)

@@ -1,0 +1,5 @@
+pub mod Equal
+pub mod Headers
+pub mod Control
+pub mod Choices
+pub mod Cycles

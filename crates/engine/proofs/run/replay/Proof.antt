@@ -1,0 +1,39 @@
+use mathlib.Core.Path.{sym, ap, _∙_}
+use Rattle.fabric.proofs.States.{held}
+use Rattle.fabric.specs.Cycle.{machine}
+use Rattle.capture.specs.declared.refusal.Judged.{Judged}
+use Rattle.capture.specs.Replay.{replayedAs, writtenAs}
+use Rattle.capture.proofs.Fates.{doable}
+use borrow.Author.Needs.{needs}
+use Rattle.engine.proofs.run.replay.Statement.{statement}
+use Rattle.engine.proofs.run.replay.Tie as tie
+
+run-requires : tie.Need-run-requires
+run-requires c κs =
+    let t = c .before in
+    let d = doable _ _ _ (sym (t .before .before .judge .ensures) ∙ t .enum-told .given .1) in
+    (held _ (d .accepted), d .fits)
+
+returns : tie.Need-returns
+returns c =
+    let n = c .before .before in
+    let j = n .before .before in
+    let a = j .before .before .before .args in
+    let m = machine (a .s) (a .rows) in
+    let f = sym (n .number .given .1) ∙ j .judge .ensures in
+    (c .handed-back .ensures ∙ ap (λ (x : Judged). replayedAs x m (a .capture .now)) f, ap (λ (x : Judged). writtenAs x m (a .capture .now) (a .buffer .now)) f)
+
+returns-2 : tie.Need-returns-2
+returns-2 c =
+    let r = c .before .before in
+    let t = r .before .before in
+    let j = t .before .before in
+    let a = j .before .before .before .args in
+    let m = machine (a .s) (a .rows) in
+    let f = sym (t .enum-told .given .1) ∙ j .judge .ensures in
+    (r .run .ensures .0 ∙ ap (λ (x : Judged). replayedAs x m (a .capture .now)) f, r .run .ensures .1 ∙ ap (λ (x : Judged). writtenAs x m (a .capture .now) (a .buffer .now)) f)
+
+pub replay-spec : {M : Type 1} → statement M
+replay-spec =
+    tie.close
+    (tie.spec (λ c κs. search needs) (λ c. search needs) (λ c κs. search needs) (λ c. search needs) run-requires returns (λ c. search needs) returns-2)

@@ -1,0 +1,51 @@
+// The replay by gates: the records, the refusals and the answers are those of the plain replay.
+ghost use mathlib.Core.Path.{_≡_};
+ghost use mathlib.Core.List.{_++_};
+ghost use Prim.Native.Nat.{_*_, _≤_};
+ghost use lib.ListN.{length, drop};
+ghost use Rattle.fabric.specs.State.{Held};
+ghost use Rattle.fabric.specs.Cycle.{machine};
+ghost use Rattle.capture.specs.Capture.{records};
+ghost use Rattle.capture.specs.Replay.{endOf, answers, handedBack, replayOf, replayWrites};
+use super::cycle;
+use capture::Judged;
+use capture::Replayed;
+use fabric::State;
+
+// All whole records of a capture, one after the other.
+fn run(s: State, rows: [[u8; 4]; 4], capture: &[u8], buffer: &mut [u8]) -> Replayed
+    requires { ⌜ Held s × (length (now capture) ≤ length (now buffer)) ⌝ }
+    ensures state { λ r. ⌜ r ≡ handedBack 0 0 (endOf (machine s rows) (now (capture .entry))) ⌝ }
+    ensures writes { λ r. ⌜ now (buffer .exit) ≡ answers (machine s rows) (now (capture .entry)) ++ drop (5 * records (now (capture .entry))) (now (buffer .entry)) ⌝ }
+{
+    let n = capture.len() / 5;
+    let mut state = s;
+    let mut r = rows;
+    let mut k: usize = 0;
+    while k < n {
+        let i = records::inputs_from(capture::record_at(capture, k));
+        let t = cycle::step(state, r, i);
+        let acks = t.acks;
+        let shown = t.shown;
+        capture::put_answer(&mut *buffer, k, records::answer_bytes(acks, shown));
+        let first = t.first;
+        let second = t.second;
+        let switched = t.switched;
+        let heads = t.heads;
+        r = fabric::rows_of(first, second, switched, heads);
+        state = t.state;
+        k += 1;
+    }
+    capture::handed_back(0, 0, state, r)
+}
+
+// Replays a capture from any state handed in, and writes an answer record for each of its records; or refuses and writes nothing.
+pub fn replay(s: State, rows: [[u8; 4]; 4], capture: &[u8], buffer: &mut [u8]) -> Replayed
+    ensures answer { λ r. ⌜ r ≡ replayOf (machine s rows) (now (capture .entry)) (length (now (buffer .entry))) ⌝ }
+    ensures writes { λ r. ⌜ now (buffer .exit) ≡ replayWrites (machine s rows) (now (capture .entry)) (now (buffer .entry)) ⌝ }
+{
+    match capture::judge(s, capture, buffer.len()) {
+        Judged::Refused { number, index } => capture::handed_back(number, index, s, rows),
+        Judged::Done => run(s, rows, capture, buffer),
+    }
+}
