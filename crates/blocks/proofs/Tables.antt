@@ -1,9 +1,19 @@
--- The seven tables are well-formed: the evaluator's own test of the words finds nothing in any of them. Assumes nothing.
-use mathlib.Core.Path.{_≡_, refl}
+-- The seven tables are well-formed: the evaluator's own test computes to no refusal. And so the evaluator that anybody can call answers, for every
+-- pattern of block inputs, the nets that the block's function reads. Assumes nothing.
+use mathlib.Core.Bool.{Bool, true, false}
+use mathlib.Core.Path.{_≡_, refl, sym}
 use mathlib.Core.List.{List, [], _∷_}
-use Rattle.gates.specs.declared.evaluator.Fault.{Fault}
+use Prim.Native.Nat.{ℕ, _^_, _≤_, _<_}
+use native.Mathlib.Nat.{div-eq-of-lt, pow-suc}
+use native.Mathlib.Omega.{arith}
+use lib.Dec.{lit<, leb→le}
+use lib.ListN.{length}
+use Rattle.routing.specs.Four.{bit}
 use Rattle.gates.specs.Word.{rightCount, wrong, late}
-use Rattle.gates.specs.Evaluation.{fault, firstFault}
+use Rattle.gates.specs.Evaluation.{outsideLimits, fault, firstFault, done, valueOf, evaluated}
+use Rattle.gates.proofs.Limits.{neither, passed}
+use Rattle.gates.proofs.Values.{evaluated-value}
+use Rattle.blocks.specs.Lines.{lines}
 use Rattle.blocks.specs.Decode.{decodeWords}
 use Rattle.blocks.specs.Filter.{filterWords}
 use Rattle.blocks.specs.Phase.{phaseWords}
@@ -12,18 +22,30 @@ use Rattle.blocks.specs.Shut.{shutWords}
 use Rattle.blocks.specs.Select.{selectWords}
 use Rattle.blocks.specs.Choose.{chooseWords}
 
-abbrev none : Fault
-none = fault 0 0
+-- a table and its count of block inputs: within the limits of refusal 10, and with no word that 11 or 12 refuses
+abbrev pub Formed : List ℕ → ℕ → Type 0
+Formed words inputs = (outsideLimits words inputs ≡ false) × (firstFault words inputs 0 ≡ fault 0 0)
 
--- each table with its count of block inputs
-pub well-formed : firstFault decodeWords 4 0
-    ∷ firstFault filterWords 8 0
-    ∷ firstFault phaseWords 6 0
-    ∷ firstFault turnWords 7 0
-    ∷ firstFault shutWords 7 0
-    ∷ firstFault selectWords 3 0
-    ∷ firstFault chooseWords 8 0
-    ∷ []
-    ≡ none ∷ none ∷ none ∷ none ∷ none ∷ none ∷ none ∷ []
+pub well-formed : Formed decodeWords 4
+    × Formed filterWords 8
+    × Formed phaseWords 6
+    × Formed turnWords 7
+    × Formed shutWords 7
+    × Formed selectWords 3
+    × Formed chooseWords 8
 unfolding firstFault rightCount wrong late
-well-formed = refl
+well-formed = ((refl, refl), (refl, refl), (refl, refl), (refl, refl), (refl, refl), (refl, refl), (refl, refl))
+
+-- block inputs are a number below 2 to the power of their count
+bit-le : (b : Bool) → bit b ≤ 1
+bit-le true = leb→le 1 1 tt
+bit-le false = leb→le 0 1 tt
+
+lines-lt : (l : List Bool) → lines l < 2 ^ length l
+lines-lt [] = lit< tt
+lines-lt (b ∷ bs) = rw (pow-suc 2 (length bs)) (omega (arith, bit-le b, lines-lt bs))
+
+pub evaluates : (words : List ℕ) (l : List Bool) → Formed words (length l) → evaluated words (length l) (lines l) ≡ done (valueOf words (length l) (lines l))
+evaluates words l formed =
+    let limits = neither _ _ (formed .0) in
+    evaluated-value words (length l) (lines l) (sym (passed words (length l) (lines l) (limits .0) (limits .1) (div-eq-of-lt (lines-lt l)))) (formed .1)

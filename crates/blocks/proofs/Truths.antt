@@ -10,7 +10,6 @@ use Rattle.routing.specs.Four.{four, some}
 use Rattle.routing.specs.Turn.{inTurn}
 use Rattle.routing.proofs.Tests.{Range, flag, everywhere, beq→eq}
 use Rattle.routing.proofs.Fours.{at-four}
-use Rattle.routing.proofs.Equal.{two}
 use Rattle.routing.proofs.Turns.{turn-agree}
 use Rattle.fabric.specs.Cycle.{waitingAfter, shutAfter}
 use Rattle.gates.specs.Word.{made, gate}

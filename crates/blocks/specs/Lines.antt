@@ -2,7 +2,6 @@
 use mathlib.Core.Bool.{Bool}
 use mathlib.Core.List.{List, [], _∷_}
 use Prim.Native.Nat.{ℕ, _+_, _*_}
-use lib.ListN.{getD}
 use Rattle.routing.specs.Four.{bit, bitAt}
 
 abbrev pub lines : List Bool → ℕ

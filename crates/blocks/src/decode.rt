@@ -1,6 +1,7 @@
 // What one header asks for.
 ghost use mathlib.Core.Path.{_≡_};
 ghost use Rattle.blocks.specs.Decode.{decoded};
+use super::line::four_nets;
 use super::line::lines;
 
 const DECODE: [u32; 10] = [
@@ -32,17 +33,7 @@ pub fn decoded(active: bool, priority: bool, low: bool, high: bool) -> Requests
         lines(active, priority, low, high, false, false, false, false),
     );
     Requests {
-        high: [
-            gates::net(v, 6),
-            gates::net(v, 7),
-            gates::net(v, 8),
-            gates::net(v, 9),
-        ],
-        asks: [
-            gates::net(v, 10),
-            gates::net(v, 11),
-            gates::net(v, 12),
-            gates::net(v, 13),
-        ],
+        high: four_nets(v, 6, 7, 8, 9),
+        asks: four_nets(v, 10, 11, 12, 13),
     }
 }

@@ -1,6 +1,7 @@
 // Who of an output's askers remains.
 ghost use mathlib.Core.Path.{_≡_};
 ghost use Rattle.blocks.specs.Filter.{filtered};
+use super::line::four_nets;
 use super::line::lines;
 
 const FILTER: [u32; 12] = [
@@ -36,10 +37,5 @@ pub fn filtered(high: [bool; 4], asks: [bool; 4]) -> [bool; 4]
             asks[3],
         ),
     );
-    [
-        gates::net(v, 10),
-        gates::net(v, 13),
-        gates::net(v, 16),
-        gates::net(v, 19),
-    ]
+    four_nets(v, 10, 13, 16, 19)
 }

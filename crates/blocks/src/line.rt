@@ -3,7 +3,7 @@ ghost use mathlib.Core.Path.{_≡_};
 ghost use mathlib.Core.List.{[], _∷_};
 ghost use Prim.Native.Nat.{_<_, _≤_};
 ghost use Rattle.routing.specs.Four.{bit};
-ghost use Rattle.blocks.specs.Lines.{lines};
+ghost use Rattle.blocks.specs.Lines.{lines, fourNets};
 
 fn line(b: bool) -> u64
     ensures { λ r. ⌜ (r ≡ bit b) × (r ≤ 1) ⌝ }
@@ -16,4 +16,16 @@ pub fn lines(a: bool, b: bool, c: bool, d: bool, e: bool, f: bool, g: bool, h: b
 {
     let high = line(e) + 2 * (line(f) + 2 * (line(g) + 2 * line(h)));
     line(a) + 2 * (line(b) + 2 * (line(c) + 2 * (line(d) + 2 * high)))
+}
+
+// Four nets of an evaluation.
+pub(crate) fn four_nets(v: u64, a: u32, b: u32, c: u32, d: u32) -> [bool; 4]
+    ensures { λ r. ⌜ r ≡ fourNets v a b c d ⌝ }
+{
+    [
+        gates::net(v, a),
+        gates::net(v, b),
+        gates::net(v, c),
+        gates::net(v, d),
+    ]
 }

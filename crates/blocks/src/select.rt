@@ -1,6 +1,7 @@
 // Which input an output lets through.
 ghost use mathlib.Core.Path.{_≡_};
 ghost use Rattle.blocks.specs.Select.{selected};
+use super::line::four_nets;
 use super::line::lines;
 
 const SELECT: [u32; 6] = [
@@ -21,10 +22,5 @@ pub fn selected(low: bool, high: bool, shut: bool) -> [bool; 4]
         3,
         lines(low, high, shut, false, false, false, false, false),
     );
-    [
-        gates::net(v, 5),
-        gates::net(v, 6),
-        gates::net(v, 7),
-        gates::net(v, 8),
-    ]
+    four_nets(v, 5, 6, 7, 8)
 }

@@ -2,3 +2,4 @@ pub mod Records
 pub mod Bads
 pub mod Fates
 pub mod Loops
+pub mod Endings

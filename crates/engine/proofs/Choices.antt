@@ -13,8 +13,7 @@ use Rattle.routing.proofs.Fours.{at-four}
 use Rattle.routing.proofs.Tests.{flag, upto, everywhere, beq→eq}
 use Rattle.fabric.specs.declared.state.State.{State}
 use Rattle.fabric.specs.State.{shutAt, holderAt, Held}
-use Rattle.fabric.specs.Cycle.{passes, acked, switchByte, switchAfter}
-use Rattle.blocks.specs.Lines.{lines}
+use Rattle.fabric.specs.Cycle.{acked, switchByte, switchAfter}
 use Rattle.blocks.specs.Choose.{chosen}
 use Rattle.blocks.proofs.Truths.{select-law, choose-law}
 use Rattle.engine.specs.Wiring.{bitsOf, selecting, choosing, switching, acking, letting, gateAcks, gateSwitch}

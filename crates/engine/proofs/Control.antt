@@ -8,7 +8,7 @@ use lib.ListN.{getD}
 use Rattle.routing.specs.declared.port.Input.{Input}
 use Rattle.routing.specs.Four.{four, some, bitAt}
 use Rattle.routing.specs.Port.{input}
-use Rattle.routing.specs.Header.{active, priority, outputAsked, headerOf, asks, asksHigh, asker, highAsker, someActive}
+use Rattle.routing.specs.Header.{priority, headerOf, asks, asksHigh, asker, highAsker, someActive}
 use Rattle.routing.specs.Turn.{inTurn}
 use Rattle.routing.specs.Route.{asked, remains, winner, routes}
 use Rattle.routing.proofs.Equal.{two, row-of}
@@ -112,9 +112,6 @@ next-state s headers start held =
     (ap (λ b. four (λ o. input (numberOf (turning (remaining headers o) (holderAt s o) b)))) r
     ∙ row-of (holder 0 (lit< tt) (held .held0)) (holder 1 (lit< tt) (held .held1)) (holder 2 (lit< tt) (held .held2)) (holder 3 (lit< tt) (held .held3)))
   where
-    happens : Bool
-    happens = routes (s .waiting) headers
-
     shut : (o : ℕ) → o < 4 → shutNext (shutAt s o) start (routes (s .waiting) headers) (remaining headers o) ≡ shutAfter start (routes (s .waiting) headers && asked headers o) (shutAt s o)
     shut o below = shut-net headers (routes (s .waiting) headers) o below (shutAt s o) start
 

@@ -1,12 +1,11 @@
 -- The gate engine's cycle is rules 1 to 7, for every state whose holders are inputs' numbers, and the next state's holders are again. Assumes nothing.
 use mathlib.Core.Bool.{Bool, true, false, cond, _&&_}
-use mathlib.Core.Path.{_≡_, refl, sym, ap, subst, _∙_}
+use mathlib.Core.Path.{_≡_, sym, subst}
 use mathlib.Core.List.{List}
 use Prim.Native.Nat.{ℕ, _<_}
 use lib.Dec.{lit<}
 use lib.ListN.{getD}
 use Rattle.routing.specs.declared.port.Input.{Input}
-use Rattle.routing.specs.Four.{four}
 use Rattle.routing.specs.Route.{asked, routes}
 use Rattle.routing.specs.Port.{input}
 use Rattle.routing.proofs.Turns.{turn-lt}
@@ -14,7 +13,7 @@ use Rattle.routing.specs.Route.{remains, winner}
 use Rattle.fabric.specs.declared.state.State.{State}
 use Rattle.fabric.specs.declared.cycle.Inputs.{Inputs}
 use Rattle.fabric.specs.State.{holderOf, holderAt, Held, firstRow, secondRow, switchRow}
-use Rattle.fabric.specs.Cycle.{Machine, shown, acked, holderAfter, stateAfter, switchAfter, rowsAfter, stepped, stepOf}
+use Rattle.fabric.specs.Cycle.{Machine, shown, stateAfter, rowsAfter, stepOf}
 use Rattle.fabric.proofs.Steps.{holder-step}
 use Rattle.engine.specs.declared.cycle.GateCycled.{GateCycled}
 use Rattle.engine.specs.Cycle.{gateStepOf, unreported}

@@ -1,31 +1,22 @@
 -- The bits that a block reads are the fields that the rules speak of. Assumes nothing.
-use mathlib.Core.Bool.{Bool, true, false, cond, _&&_, _||_, Bool·beq}
-use mathlib.Core.Path.{_≡_, refl, sym, ap, _∙_}
+use mathlib.Core.Bool.{Bool}
+use mathlib.Core.Path.{_≡_}
 use mathlib.Core.List.{List, [], _∷_}
-use mathlib.Core.Logic.{⊎-elim}
-use Prim.Native.Nat.{ℕ, zero, suc, _+_, _*_, _/_, _%_, _^_, _<_}
-use native.Mathlib.Nat.{mod-lt, div-one}
+use Prim.Native.Nat.{ℕ, _/_, _<_}
+use native.Mathlib.Nat.{div-one}
 use native.Mathlib.Omega.{arith}
-use lib.Dec.{eqb, eqb→eq, lit<}
-use Rattle.routing.specs.Four.{bit, bitAt}
+use lib.Dec.{eqb, eqb→eq}
+use Rattle.routing.specs.Four.{bitAt}
 use Rattle.routing.specs.Header.{active, outputAsked}
+use Rattle.routing.proofs.Masks.{bit-digit}
 use Rattle.routing.proofs.Tests.{upto, everywhere}
 use Rattle.blocks.specs.Lines.{lines}
 
 pub active-bit : (h : ℕ) → bitAt 0 h ≡ active h
 active-bit h = rw (div-one h)
 
--- a remainder by 2 is its own bit
-bit-mod : (x : ℕ) → bit (eqb (x % 2) 1) ≡ x % 2
-bit-mod x = go (x % 2) (mod-lt x (lit< tt))
-  where
-    go : (y : ℕ) → y < 2 → bit (eqb y 1) ≡ y
-    go zero h = refl
-    go (suc zero) h = refl
-    go (suc (suc y)) h = absurd (omega arith)
-
 pub output-bits : (h : ℕ) → lines (bitAt 2 h ∷ bitAt 3 h ∷ []) ≡ outputAsked h
-output-bits h = rw (bit-mod (h / 4), bit-mod (h / 8)) (omega arith)
+output-bits h = rw (bit-digit (h / 4), bit-digit (h / 8)) (omega arith)
 
 -- a holder is its two bits, a byte its eight
 pub holder-bits : (h : ℕ) → h < 4 → lines (bitAt 0 h ∷ bitAt 1 h ∷ []) ≡ h

@@ -3,10 +3,10 @@
 use mathlib.Core.Bool.{Bool, true, false}
 use mathlib.Core.Path.{_≡_, refl, sym, ap, _∙_}
 use mathlib.Core.List.{List}
-use Prim.Native.Nat.{ℕ, zero, suc, _+_, _*_, _/_, _%_, _<_, _≤_}
-use native.Mathlib.Nat.{mod-lt, div-add-mod', div-div-eq-div-mul, div-eq-of-lt}
+use Prim.Native.Nat.{ℕ, _+_, _*_, _/_, _%_, _<_, _≤_}
+use native.Mathlib.Nat.{div-add-mod', div-div-eq-div-mul, div-eq-of-lt}
 use native.Mathlib.Omega.{arith}
-use lib.Dec.{eqb, lit<}
+use lib.Dec.{eqb}
 use lib.ListN.{length, getD, take, drop}
 use lib.Seq.{take-at}
 use Rattle.fabric.specs.declared.state.State.{State}
@@ -17,6 +17,7 @@ use Rattle.fabric.specs.Cycle.{Machine}
 use Rattle.fabric.proofs.Calls.{answered}
 use Rattle.fabric.proofs.Equal.{state-of}
 use Rattle.routing.proofs.Equal.{row-of}
+use Rattle.routing.proofs.Masks.{bit-digit}
 use Rattle.fabric.proofs.States.{held}
 use Rattle.saved.specs.declared.taking_up.TakenUp.{TakenUp}
 use Rattle.saved.specs.Saved.{wordOf, savedOf, saveRefusal, saveWrites, wordIn, stateIn, takeUpRefusal, takenUp, takeUpOf}
@@ -108,14 +109,6 @@ saved-taken-up m buffer f e =
 
 digit : (w m k : ℕ) → w / m ≡ w / (m * k) * k + w / m % k
 digit w m k = sym (div-add-mod' (w / m) k) ∙ ap (λ (q : ℕ). q * k + w / m % k) (div-div-eq-div-mul w m k)
-
-bit-digit : (x : ℕ) → bit (eqb (x % 2) 1) ≡ x % 2
-bit-digit x = go (x % 2) (mod-lt x (lit< tt))
-  where
-    go : (d : ℕ) → d < 2 → bit (eqb d 1) ≡ d
-    go zero h = refl
-    go (suc zero) h = refl
-    go (suc (suc d)) h = absurd (omega arith)
 
 -- nine digits above three zero bits
 regroup : (w a b c d e f g h i : ℕ) → w ≡ a * 8 → a ≡ b * 4 + a % 4 → b ≡ c * 4 + b % 4 → c ≡ d * 4 + c % 4 → d ≡ e * 4 + d % 4

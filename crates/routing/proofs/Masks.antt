@@ -2,9 +2,10 @@
 use mathlib.Core.Bool.{Bool, true, false, not, _||_, Bool·beq}
 use mathlib.Core.Path.{_≡_, refl, sym, ap, _∙_}
 use mathlib.Core.List.{List, [], _∷_}
-use Prim.Native.Nat.{ℕ, _+_, _*_, _<_}
+use Prim.Native.Nat.{ℕ, _+_, _*_, _%_, _<_}
+use native.Mathlib.Nat.{mod-lt}
 use lib.Count.{ones, onesIn}
-use lib.Dec.{eqb, eqb→eq}
+use lib.Dec.{eqb, eqb→eq, lit<}
 use lib.ListN.{getD}
 use borrow.Author.Tests.{eq-eqb, ne-eqb, not-true, not-false}
 use Rattle.routing.specs.Four.{some, bit, bitAt, count, mask}
@@ -53,3 +54,7 @@ module _ (f : ℕ → Bool) where
 
   pub ones-mask : ones (mask f) ≡ count f
   ones-mask = ones-of (f 0) (f 1) (f 2) (f 3)
+
+-- a remainder by 2 is its own bit
+pub bit-digit : (x : ℕ) → bit (eqb (x % 2) 1) ≡ x % 2
+bit-digit x = eqb→eq _ _ (everywhere (upto 2 ∷ []) (λ d. eqb (bit (eqb d 1)) d) tt (x % 2) (mod-lt x (lit< tt)))

@@ -1,6 +1,5 @@
-use Rattle.routing.proofs.Equal.{two}
 use Rattle.blocks.specs.Phase.{phaseWords, phased}
-use Rattle.blocks.proofs.Nets.{net-of}
+use Rattle.blocks.proofs.Nets.{two-nets}
 use borrow.Author.Needs.{needs}
 use Rattle.blocks.proofs.phase.phased.Statement.{statement}
 use Rattle.blocks.proofs.phase.phased.Tie as tie
@@ -9,11 +8,9 @@ returns : tie.Need-returns
 unfolding phased
 returns c =
     let v = c .before .before in
-    two (λ r w. record { routing = r; waiting = w }) (net-of phaseWords 6 (v .before .lines .ensures .0) (v .value .ensures) 7 (c .before .net .ensures))
-    (net-of phaseWords 6 (v .before .lines .ensures .0) (v .value .ensures) 10 (c .net2 .ensures))
+    two-nets phaseWords 6 (v .before .lines .ensures .0) (v .value .ensures) (λ r w. record { routing = r; waiting = w }) 7 10 (c .before .net .ensures) (c .net2 .ensures)
 
 pub phased-spec : {M : Type 1} → statement M
 phased-spec =
     tie.close
-    (tie.spec (λ c. search needs) (λ c. search needs) (λ c. search needs) (λ c. search needs) (λ c. search needs) (λ c κs. search needs)
-    (λ c κs. search needs) (λ c κs. search needs) (λ c κs. search needs) returns)
+    (tie.spec (λ c. search needs) (λ c. search needs) (λ c. search needs) (λ c. search needs) (λ c. search needs) (λ c κs. search needs) (λ c κs. search needs) (λ c κs. search needs) (λ c κs. search needs) returns)

@@ -1,6 +1,5 @@
-use Rattle.routing.proofs.Equal.{two}
 use Rattle.blocks.specs.Turn.{turnWords, turned}
-use Rattle.blocks.proofs.Nets.{net-of}
+use Rattle.blocks.proofs.Nets.{two-nets}
 use borrow.Author.Needs.{needs}
 use Rattle.blocks.proofs.turn.turned.Statement.{statement}
 use Rattle.blocks.proofs.turn.turned.Tie as tie
@@ -9,11 +8,9 @@ returns : tie.Need-returns
 unfolding turned
 returns c =
     let v = c .before .before in
-    two (λ l h. record { low = l; high = h }) (net-of turnWords 7 (v .before .lines .ensures .0) (v .value .ensures) 31 (c .before .net .ensures))
-    (net-of turnWords 7 (v .before .lines .ensures .0) (v .value .ensures) 30 (c .net2 .ensures))
+    two-nets turnWords 7 (v .before .lines .ensures .0) (v .value .ensures) (λ l h. record { low = l; high = h }) 31 30 (c .before .net .ensures) (c .net2 .ensures)
 
 pub turned-spec : {M : Type 1} → statement M
 turned-spec =
     tie.close
-    (tie.spec (λ c. search needs) (λ c. search needs) (λ c. search needs) (λ c. search needs) (λ c. search needs) (λ c κs. search needs)
-    (λ c κs. search needs) (λ c κs. search needs) (λ c κs. search needs) returns)
+    (tie.spec (λ c. search needs) (λ c. search needs) (λ c. search needs) (λ c. search needs) (λ c. search needs) (λ c κs. search needs) (λ c κs. search needs) (λ c κs. search needs) (λ c κs. search needs) returns)

@@ -1,7 +1,6 @@
-use mathlib.Core.Path.{sym, ap, _∙_}
+use mathlib.Core.Path.{sym, _∙_}
 use Rattle.fabric.specs.Cycle.{machine}
-use Rattle.capture.specs.declared.refusal.Judged.{Judged}
-use Rattle.capture.specs.Replay.{replayedAs, writtenAs}
+use Rattle.capture.proofs.Endings.{ends-refused, ends-done}
 use Rattle.capture.proofs.Fates.{doable}
 use borrow.Author.Needs.{needs}
 use Rattle.capture.proofs.run.replay.Statement.{statement}
@@ -16,9 +15,7 @@ returns c =
     let n = c .before .before in
     let j = n .before .before in
     let a = j .before .before .before .args in
-    let m = machine (a .s) (a .rows) in
-    let f = sym (n .number .given .1) ∙ j .judge .ensures in
-    (c .handed-back .ensures ∙ ap (λ (x : Judged). replayedAs x m (a .capture .now)) f, ap (λ (x : Judged). writtenAs x m (a .capture .now) (a .buffer .now)) f)
+    ends-refused (machine (a .s) (a .rows)) (a .capture .now) (a .buffer .now) (j .judge .ensures) (n .number .given .1) (c .handed-back .ensures)
 
 returns-2 : tie.Need-returns-2
 returns-2 c =
@@ -26,9 +23,7 @@ returns-2 c =
     let t = r .before .before in
     let j = t .before .before in
     let a = j .before .before .before .args in
-    let m = machine (a .s) (a .rows) in
-    let f = sym (t .enum-told .given .1) ∙ j .judge .ensures in
-    (r .run .ensures .0 ∙ ap (λ (x : Judged). replayedAs x m (a .capture .now)) f, r .run .ensures .1 ∙ ap (λ (x : Judged). writtenAs x m (a .capture .now) (a .buffer .now)) f)
+    ends-done (machine (a .s) (a .rows)) (a .capture .now) (a .buffer .now) (j .judge .ensures) (t .enum-told .given .1) (r .run .ensures)
 
 pub replay-spec : {M : Type 1} → statement M
 replay-spec =
