@@ -22,4 +22,5 @@ pub use phase::phased;
 pub use select::selected;
 pub use shut::shut_next;
 pub use turn::Holder;
+pub use turn::number_of;
 pub use turn::turned;

@@ -1,6 +1,6 @@
 // An output's next holder.
 ghost use mathlib.Core.Path.{_≡_};
-ghost use Rattle.blocks.specs.Turn.{turned};
+ghost use Rattle.blocks.specs.Turn.{numberOf, turned};
 use super::line::lines;
 
 // Each of the holder's two bits goes by a JK rule: j sets it where it is 0, k clears it where it is 1.
@@ -60,4 +60,11 @@ pub fn turned(remain: [bool; 4], low: bool, high: bool, routing: bool) -> Holder
         low: gates::net(v, 31),
         high: gates::net(v, 30),
     }
+}
+
+// The number of an input, of its two bits.
+pub fn number_of(h: Holder) -> u8
+    ensures { λ r. ⌜ r ≡ numberOf h ⌝ }
+{
+    lines(h.low, h.high, false, false, false, false, false, false) as u8
 }

@@ -89,18 +89,7 @@ fn turn(remain: [bool; 4], holder: Input, routing: bool) -> Input
     ensures { λ r. ⌜ r ≡ input (numberOf (turning remain (holder .0) routing)) ⌝ }
 {
     let next = blocks::turned(remain, bit(holder.0, 0), bit(holder.0, 1), routing);
-    Input(
-        blocks::lines(
-            next.low,
-            next.high,
-            false,
-            false,
-            false,
-            false,
-            false,
-            false,
-        ) as u8,
-    )
+    Input(blocks::number_of(next))
 }
 
 pub(crate) fn turn_all(remain: [[bool; 4]; 4], holders: [Input; 4], routing: bool) -> [Input; 4]

@@ -9,9 +9,9 @@ use Rattle.engine.proofs.wiring.turn.Tie as tie
 returns : tie.Need-returns
 returns c =
     let a = c .before .before .before .before .args in
-    ap input (c .lines .ensures .0 ∙ ap numberOf (c .before .turned .ensures ∙ two (λ l h. turned (a .remain) l h (a .routing)) (c .before .before .before .bit .ensures) (c .before .before .bit2 .ensures)))
+    ap input (c .number-of .ensures ∙ ap numberOf (c .before .turned .ensures ∙ two (λ l h. turned (a .remain) l h (a .routing)) (c .before .before .before .bit .ensures) (c .before .before .bit2 .ensures)))
 
 pub turn-spec : {M : Type 1} → statement M
 turn-spec =
     tie.close
-    (tie.spec (λ c κs. search needs) (λ c κs. search needs) (λ c κs. search needs) (λ c κs. search needs) (λ c. search needs) returns)
+    (tie.spec (λ c κs. search needs) (λ c κs. search needs) (λ c κs. search needs) (λ c κs. search needs) returns)
