@@ -1,5 +1,5 @@
-// What feeds each block. A block input is a bit of the state, a bit of the cycle's inputs or a net of a block that was evaluated before; there
-// is nothing else in this file, and no branch.
+// What feeds each block, in the order in which the blocks are evaluated. A block input is a bit of the state, a bit of the cycle's inputs or a
+// net of a block that was evaluated before; there is nothing else in this file, and no branch.
 ghost use mathlib.Core.Path.{_≡_};
 ghost use mathlib.Core.Bool.{false};
 ghost use mathlib.Core.List.{[]};
@@ -34,7 +34,7 @@ fn bits(row: [u8; 4], k: u32) -> [bool; 4]
     ]
 }
 
-// Input by input: the four headers are decoded.
+// Decode, for one input: bits 0 to 3 of its header.
 fn decode(header: u8) -> Requests
     ensures { λ r. ⌜ r ≡ decoding header ⌝ }
 {
@@ -57,13 +57,14 @@ pub(crate) fn decode_all(headers: [u8; 4]) -> [Requests; 4]
     ]
 }
 
+// Phase: the phase at the start, the frame start, and bit 0 of each header.
 pub(crate) fn phase(waiting: bool, start: bool, headers: [u8; 4]) -> Timing
     ensures { λ r. ⌜ r ≡ phasing waiting start headers ⌝ }
 {
     blocks::phased(waiting, start, bits(headers, 0))
 }
 
-// Output by output: who remains of its askers.
+// Filter, for output o: what the four decodings say of it, first of the high class, then of all.
 fn filter(d: [Requests; 4], o: usize) -> [bool; 4]
     requires { ⌜ o < 4 ⌝ }
     ensures { λ r. ⌜ r ≡ filtering (requestsOf d) o ⌝ }
@@ -84,7 +85,24 @@ pub(crate) fn filter_all(d: [Requests; 4]) -> [[bool; 4]; 4]
     [filter(d, 0), filter(d, 1), filter(d, 2), filter(d, 3)]
 }
 
-// The next holder, of the two bits that the turn makes.
+// Shut flag, for each output: the flag, the frame start, the routing that the phase block found, and who remains.
+pub(crate) fn shut_all(
+    shut: [bool; 4],
+    start: bool,
+    routing: bool,
+    remain: [[bool; 4]; 4],
+) -> [bool; 4]
+    ensures { λ r. ⌜ r ≡ four (λ o. shutNext (getD shut o false) start routing (getD remain o [])) ⌝ }
+{
+    [
+        blocks::shut_next(shut[0], start, routing, remain[0]),
+        blocks::shut_next(shut[1], start, routing, remain[1]),
+        blocks::shut_next(shut[2], start, routing, remain[2]),
+        blocks::shut_next(shut[3], start, routing, remain[3]),
+    ]
+}
+
+// Turn, for one output: who remains, the holder's two bits, and the routing. The two bits that it makes are the next holder.
 fn turn(remain: [bool; 4], holder: Input, routing: bool) -> Input
     ensures { λ r. ⌜ r ≡ input (numberOf (turning remain (holder .0) routing)) ⌝ }
 {
@@ -103,23 +121,7 @@ pub(crate) fn turn_all(remain: [[bool; 4]; 4], holders: [Input; 4], routing: boo
     ]
 }
 
-pub(crate) fn shut_all(
-    shut: [bool; 4],
-    start: bool,
-    routing: bool,
-    remain: [[bool; 4]; 4],
-) -> [bool; 4]
-    ensures { λ r. ⌜ r ≡ four (λ o. shutNext (getD shut o false) start routing (getD remain o [])) ⌝ }
-{
-    [
-        blocks::shut_next(shut[0], start, routing, remain[0]),
-        blocks::shut_next(shut[1], start, routing, remain[1]),
-        blocks::shut_next(shut[2], start, routing, remain[2]),
-        blocks::shut_next(shut[3], start, routing, remain[3]),
-    ]
-}
-
-// Output by output: whom it lets through.
+// Select, for one output: the holder's two bits and the shut flag.
 fn select(holder: Input, shut: bool) -> [bool; 4]
     ensures { λ r. ⌜ r ≡ selecting (holder .0) shut ⌝ }
 {
@@ -137,7 +139,29 @@ pub(crate) fn select_all(holders: [Input; 4], shut: [bool; 4]) -> [[bool; 4]; 4]
     ]
 }
 
-// A switch byte, bit by bit: the same choice at each of the eight places.
+// Choose, for the acknowledgement to input i: the outputs' acknowledgements, and which outputs let the input through.
+fn acknowledge(acks: [bool; 4], lets: [[bool; 4]; 4], i: usize) -> bool
+    requires { ⌜ i < 4 ⌝ }
+    ensures { λ r. ⌜ r ≡ acking acks (λ o. getD lets o []) i ⌝ }
+{
+    blocks::chosen(
+        [acks[0], acks[1], acks[2], acks[3]],
+        [lets[0][i], lets[1][i], lets[2][i], lets[3][i]],
+    )
+}
+
+pub(crate) fn acknowledge_all(acks: [bool; 4], lets: [[bool; 4]; 4]) -> [bool; 4]
+    ensures { λ r. ⌜ r ≡ four (acking acks (λ o. getD lets o [])) ⌝ }
+{
+    [
+        acknowledge(acks, lets, 0),
+        acknowledge(acks, lets, 1),
+        acknowledge(acks, lets, 2),
+        acknowledge(acks, lets, 3),
+    ]
+}
+
+// Choose, for each bit of one switch byte: that bit of the four second latches, and whom the output lets through.
 fn switch_byte(second: [u8; 4], lets: [bool; 4]) -> u8
     ensures { λ r. ⌜ r ≡ switching second lets ⌝ }
 {
@@ -161,27 +185,5 @@ pub(crate) fn switch_all(second: [u8; 4], lets: [[bool; 4]; 4]) -> [u8; 4]
         switch_byte(second, lets[1]),
         switch_byte(second, lets[2]),
         switch_byte(second, lets[3]),
-    ]
-}
-
-// The acknowledgement to input i: the outputs' acknowledgements, chosen by which outputs let the input through.
-fn acknowledge(acks: [bool; 4], lets: [[bool; 4]; 4], i: usize) -> bool
-    requires { ⌜ i < 4 ⌝ }
-    ensures { λ r. ⌜ r ≡ acking acks (λ o. getD lets o []) i ⌝ }
-{
-    blocks::chosen(
-        [acks[0], acks[1], acks[2], acks[3]],
-        [lets[0][i], lets[1][i], lets[2][i], lets[3][i]],
-    )
-}
-
-pub(crate) fn acknowledge_all(acks: [bool; 4], lets: [[bool; 4]; 4]) -> [bool; 4]
-    ensures { λ r. ⌜ r ≡ four (acking acks (λ o. getD lets o [])) ⌝ }
-{
-    [
-        acknowledge(acks, lets, 0),
-        acknowledge(acks, lets, 1),
-        acknowledge(acks, lets, 2),
-        acknowledge(acks, lets, 3),
     ]
 }
