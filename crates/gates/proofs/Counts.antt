@@ -78,7 +78,7 @@ module _ (kind n : ℕ) (a b c d : Bool) where
 
 pub made-unknown : (kind : ℕ) (bs : List Bool) → 9 ≤ kind → false ≡ made kind bs
 unfolding made
-made-unknown kind bs h = sym (List·getD-eq-default (values (λ i. getD bs i false) bs) false h)
+made-unknown kind bs h = sym (List·getD-eq-default (values bs) false h)
 
 -- in two steps, since `omega` takes at most six case splits
 pub past-four : {k : ℕ} → k ≢ 0 → k ≢ 1 → k ≢ 2 → k ≢ 3 → k ≢ 4 → 5 ≤ k

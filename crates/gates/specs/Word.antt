@@ -39,23 +39,25 @@ any (b ∷ bs) = b || any bs
 abbrev pub differ : Bool → Bool → Bool
 differ a b = not (Bool·beq a b)
 
--- A gate reads the values bs, the first of them at 0. What it makes of them, for the kinds 0 buffer, 1 inverter, 2 AND, 3 NAND, 4 OR, 5 NOR,
--- 6 XOR, 7 XNOR, 8 first AND second, OR third AND fourth; an unknown kind makes 0.
-abbrev pub values : (ℕ → Bool) → List Bool → List Bool
-values at bs =
-    at 0
-    ∷ not (at 0)
+-- What a gate makes of the values bs that it reads, one entry for each kind: 0 buffer, 1 inverter, 2 AND, 3 NAND, 4 OR, 5 NOR, 6 XOR, 7 XNOR,
+-- 8 first AND second, OR third AND fourth.
+abbrev pub values : List Bool → List Bool
+values bs =
+    let read : ℕ → Bool = λ i. getD bs i false in
+    read 0
+    ∷ not (read 0)
     ∷ every bs
     ∷ not (every bs)
     ∷ any bs
     ∷ not (any bs)
-    ∷ differ (at 0) (at 1)
-    ∷ not (differ (at 0) (at 1))
-    ∷ (at 0 && at 1 || at 2 && at 3)
+    ∷ differ (read 0) (read 1)
+    ∷ not (differ (read 0) (read 1))
+    ∷ ((read 0 && read 1) || (read 2 && read 3))
     ∷ []
 
+-- an unknown kind makes 0
 unfoldable pub made : ℕ → List Bool → Bool
-made kind bs = getD (values (λ i. getD bs i false) bs) kind false
+made kind bs = getD (values bs) kind false
 
 -- the value of the gate w over the nets v
 unfoldable pub gate : ℕ → ℕ → Bool
