@@ -96,7 +96,7 @@ fn refused(number: u8, index: usize) -> Evaluated
     }
 }
 
-// The nets of a list whose words were tested once and for all: it tests sizes alone, and answers 0 where 10 or 13 would be given.
+// The nets of a list whose words were tested once and for all: it tests for 10 and 13 alone, and answers 0 where one of those would be given.
 pub fn value(words: &[u32], inputs: usize, input: u64) -> u64
     ensures { λ r. ⌜ r ≡ valueOf (now (words .entry)) inputs input ⌝ }
 {
