@@ -1,14 +1,14 @@
 -- The seven tables are well-formed: the evaluator's own test computes to no refusal. And so the evaluator that anybody can call answers, for every
 -- pattern of block inputs, the nets that the block's function reads. Assumes nothing.
-use mathlib.Core.Bool.{Bool, true, false}
+use mathlib.Core.Bool.{Bool, false}
 use mathlib.Core.Path.{_≡_, refl, sym}
 use mathlib.Core.List.{List, [], _∷_}
-use Prim.Native.Nat.{ℕ, _^_, _≤_, _<_}
+use Prim.Native.Nat.{ℕ, _^_, _<_}
 use native.Mathlib.Nat.{div-eq-of-lt, pow-suc}
 use native.Mathlib.Omega.{arith}
-use lib.Dec.{lit<, leb→le}
+use lib.Dec.{lit<}
 use lib.ListN.{length}
-use Rattle.routing.specs.Four.{bit}
+use Rattle.routing.proofs.Masks.{bit-le}
 use Rattle.gates.specs.Word.{rightCount, wrong, late}
 use Rattle.gates.specs.Evaluation.{outsideLimits, fault, firstFault, done, valueOf, evaluated}
 use Rattle.gates.proofs.Limits.{neither, passed}
@@ -37,10 +37,6 @@ unfolding firstFault rightCount wrong late
 well-formed = ((refl, refl), (refl, refl), (refl, refl), (refl, refl), (refl, refl), (refl, refl), (refl, refl))
 
 -- block inputs are a number below 2 to the power of their count
-bit-le : (b : Bool) → bit b ≤ 1
-bit-le true = leb→le 1 1 tt
-bit-le false = leb→le 0 1 tt
-
 lines-lt : (l : List Bool) → lines l < 2 ^ length l
 lines-lt [] = lit< tt
 lines-lt (b ∷ bs) = rw (pow-suc 2 (length bs)) (omega (arith, bit-le b, lines-lt bs))

@@ -5,11 +5,10 @@ use mathlib.Core.Path.{_≡_, refl, ap, _∙_}
 use mathlib.Core.List.{List, [], _∷_}
 use Prim.Native.Nat.{ℕ}
 use lib.Dec.{T, eqb, eqb→eq}
-use lib.ListN.{getD}
 use Rattle.routing.specs.Four.{four, some}
 use Rattle.routing.specs.Turn.{inTurn}
-use Rattle.routing.proofs.Tests.{Range, flag, everywhere, beq→eq}
-use Rattle.routing.proofs.Fours.{at-four}
+use Rattle.routing.proofs.Tests.{flag, flags, everywhere, beq→eq}
+use Rattle.routing.proofs.Fours.{row, at-four}
 use Rattle.routing.proofs.Turns.{turn-agree}
 use Rattle.fabric.specs.Cycle.{waitingAfter, shutAfter}
 use Rattle.gates.specs.Word.{made, gate}
@@ -38,13 +37,6 @@ same→eq (true ∷ l) (true ∷ bs) t = ap (λ (x : List Bool). true ∷ x) (sa
 same→eq (true ∷ l) (false ∷ bs) t = absurd t
 same→eq (false ∷ l) (true ∷ bs) t = absurd t
 same→eq (false ∷ l) (false ∷ bs) t = ap (λ (x : List Bool). false ∷ x) (same→eq l bs t)
-
--- four answers, and the function that gives them
-abbrev flags : List Range → List Range
-flags rs = flag ∷ flag ∷ flag ∷ flag ∷ rs
-
-abbrev row : Bool → Bool → Bool → Bool → ℕ → Bool
-row a b c d i = getD (a ∷ b ∷ c ∷ d ∷ []) i false
 
 -- decode: for each output, whether the header asks for it in the high class, and whether it asks for it
 module _ (a p l h : Bool) where

@@ -9,8 +9,8 @@ use lib.ListN.{getD}
 use Rattle.routing.specs.Four.{four, some, bitAt}
 use Rattle.routing.specs.Header.{headerOf}
 use Rattle.routing.proofs.Equal.{row-of}
-use Rattle.routing.proofs.Fours.{at-four}
-use Rattle.routing.proofs.Tests.{flag, upto, everywhere, beq→eq}
+use Rattle.routing.proofs.Fours.{row, at-four}
+use Rattle.routing.proofs.Tests.{flag, upto, flags, everywhere, beq→eq}
 use Rattle.fabric.specs.declared.state.State.{State}
 use Rattle.fabric.specs.State.{shutAt, holderAt, Held}
 use Rattle.fabric.specs.Cycle.{acked, switchByte, switchAfter}
@@ -32,8 +32,8 @@ module _ (h : ℕ) (shut : Bool) (held : h < 4) where
 let-through : (shut : Bool) (h : ℕ) → h < 4 → (f : ℕ → Bool) → some (λ i. (not shut && eqb h i) && f i) ≡ (not shut && f h)
 let-through shut h held f =
     beq→eq _ _
-    (everywhere (flag ∷ upto 4 ∷ flag ∷ flag ∷ flag ∷ flag ∷ [])
-    (λ t n a b c d. Bool·beq (some (λ i. (not t && eqb n i) && getD (a ∷ b ∷ c ∷ d ∷ []) i false)) (not t && getD (a ∷ b ∷ c ∷ d ∷ []) n false))
+    (everywhere (flag ∷ upto 4 ∷ flags [])
+    (λ t n a b c d. Bool·beq (some (λ i. (not t && eqb n i) && row a b c d i)) (not t && row a b c d n))
     tt shut h held (f 0) (f 1) (f 2) (f 3))
     ∙ ap (λ b. not shut && b) (at-four f false h held)
 

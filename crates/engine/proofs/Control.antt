@@ -1,5 +1,5 @@
 -- Rules 3 to 6 by gates: decoding, filter, phase, turn and shut flag, one after the other, make the next state of the rules. Assumes nothing.
-use mathlib.Core.Bool.{Bool, true, false, cond, _&&_, _||_, Bool·beq}
+use mathlib.Core.Bool.{Bool, true, false, cond, _&&_}
 use mathlib.Core.Path.{_≡_, refl, ap, _∙_}
 use mathlib.Core.List.{List, [], _∷_}
 use Prim.Native.Nat.{ℕ, _<_}
@@ -8,12 +8,12 @@ use lib.ListN.{getD}
 use Rattle.routing.specs.declared.port.Input.{Input}
 use Rattle.routing.specs.Four.{four, some, bitAt}
 use Rattle.routing.specs.Port.{input}
-use Rattle.routing.specs.Header.{priority, headerOf, asks, asksHigh, asker, highAsker, someActive}
+use Rattle.routing.specs.Header.{headerOf, asks, asksHigh, asker, highAsker, someActive}
 use Rattle.routing.specs.Turn.{inTurn}
 use Rattle.routing.specs.Route.{asked, remains, winner, routes}
 use Rattle.routing.proofs.Equal.{two, row-of}
 use Rattle.routing.proofs.Fours.{at-four}
-use Rattle.routing.proofs.Tests.{flag, everywhere, beq→eq}
+use Rattle.routing.proofs.Winners.{some-remain}
 use Rattle.fabric.specs.declared.state.State.{State}
 use Rattle.fabric.specs.State.{shutAt, holderOf, holderAt, Held}
 use Rattle.fabric.specs.Cycle.{holderAfter, waitingAfter, shutAfter, stateAfter}
@@ -42,24 +42,7 @@ module _ (h o : ℕ) (below : o < 4) where
       ∙ at-four (λ o. (bitAt 0 h && eqb (lines (bitAt 2 h ∷ bitAt 3 h ∷ [])) o) && bitAt 1 h) false o below
       ∙ rw (active-bit h, output-bits h)
 
--- somebody remains exactly where somebody asks
-left : (a b c d p q r s : Bool)
-    → some (λ i. cond ((a && p) || (b && q) || (c && r) || (d && s)) (getD ((a && p) ∷ (b && q) ∷ (c && r) ∷ (d && s) ∷ []) i false) (getD (a ∷ b ∷ c ∷ d ∷ []) i false))
-    ≡ (a || b || c || d)
-left a b c d p q r s = beq→eq _ _
-    (everywhere (flag ∷ flag ∷ flag ∷ flag ∷ flag ∷ flag ∷ flag ∷ flag ∷ [])
-    (λ a b c d p q r s.
-    Bool·beq
-    (some (λ i. cond ((a && p) || (b && q) || (c && r) || (d && s)) (getD ((a && p) ∷ (b && q) ∷ (c && r) ∷ (d && s) ∷ []) i false) (getD (a ∷ b ∷ c ∷ d ∷ []) i false)))
-    (a || b || c || d))
-    tt a b c d p q r s)
-
 module _ (headers : List ℕ) where
-  some-remain : (o : ℕ) → some (remains headers o) ≡ asked headers o
-  some-remain o =
-      left (asker headers o 0) (asker headers o 1) (asker headers o 2) (asker headers o 3)
-      (priority (headerOf headers 0)) (priority (headerOf headers 1)) (priority (headerOf headers 2)) (priority (headerOf headers 3))
-
   -- rule 4's askers who are not set aside
   who-remains : (o : ℕ) → o < 4 → remaining headers o ≡ four (remains headers o)
   who-remains o below =
@@ -86,7 +69,7 @@ module _ (headers : List ℕ) where
     shut-net shut start =
         ap (shutNext shut start routing) (who-remains o below)
         ∙ shut-law shut start routing (remains headers o)
-        ∙ ap (λ b. shutAfter start (routing && b) shut) (some-remain o)
+        ∙ ap (λ b. shutAfter start (routing && b) shut) (some-remain headers o)
 
     -- rule 4
     pub holder-net : (h : Input) → h .0 < 4 → input (numberOf (turning (remaining headers o) (h .0) routing)) ≡ holderAfter routing headers o h
@@ -94,7 +77,7 @@ module _ (headers : List ℕ) where
         ap (λ (l : List Bool). input (numberOf (turning l (h .0) routing))) (who-remains o below)
         ∙ ap input (turn-law (remains headers o) (bitAt 0 (h .0)) (bitAt 1 (h .0)) routing)
         ∙ ap (λ (n : ℕ). input (cond (routing && some (remains headers o)) (inTurn (remains headers o) n) n)) (holder-bits (h .0) held)
-        ∙ ap (λ b. input (cond (routing && b) (winner headers o (h .0)) (h .0))) (some-remain o)
+        ∙ ap (λ b. input (cond (routing && b) (winner headers o (h .0)) (h .0))) (some-remain headers o)
         ∙ either (routing && asked headers o)
       where
         either : (b : Bool) → input (cond b (winner headers o (h .0)) (h .0)) ≡ cond b (input (winner headers o (h .0))) h

@@ -1,20 +1,15 @@
 -- The gate engine's cycle is rules 1 to 7, for every state whose holders are inputs' numbers, and the next state's holders are again. Assumes nothing.
-use mathlib.Core.Bool.{Bool, true, false, cond, _&&_}
-use mathlib.Core.Path.{_≡_, sym, subst}
+use mathlib.Core.Bool.{Bool}
+use mathlib.Core.Path.{_≡_}
 use mathlib.Core.List.{List}
 use Prim.Native.Nat.{ℕ, _<_}
 use lib.Dec.{lit<}
 use lib.ListN.{getD}
-use Rattle.routing.specs.declared.port.Input.{Input}
-use Rattle.routing.specs.Route.{asked, routes}
-use Rattle.routing.specs.Port.{input}
-use Rattle.routing.proofs.Turns.{turn-lt}
-use Rattle.routing.specs.Route.{remains, winner}
 use Rattle.fabric.specs.declared.state.State.{State}
 use Rattle.fabric.specs.declared.cycle.Inputs.{Inputs}
-use Rattle.fabric.specs.State.{holderOf, holderAt, Held, firstRow, secondRow, switchRow}
+use Rattle.fabric.specs.State.{holderAt, Held, firstRow, secondRow, switchRow}
 use Rattle.fabric.specs.Cycle.{Machine, shown, stateAfter, rowsAfter, stepOf}
-use Rattle.fabric.proofs.Steps.{holder-step}
+use Rattle.fabric.proofs.Steps.{holder-below}
 use Rattle.engine.specs.declared.cycle.GateCycled.{GateCycled}
 use Rattle.engine.specs.Cycle.{gateStepOf, unreported}
 use Rattle.engine.proofs.Control.{next-state}
@@ -45,7 +40,7 @@ gates-are-rules m i bytes held =
     parts-of m i (acks-made (m .state) held (i .acks)) (next-state (m .state) (secondRow (m .rows)) (i .frame) held)
     (switch-made (m .state) held (secondRow (m .rows)) bytes)
 
--- rule 4 leaves an input's number
+-- the next state's holders are inputs' numbers again
 pub held-after : (s : State) (headers : List ℕ) (start : Bool) → Held s → Held (stateAfter s headers start)
 held-after s headers start held = record {
   held0 = at 0 (lit< tt) (held .held0);
@@ -54,10 +49,5 @@ held-after s headers start held = record {
   held3 = at 3 (lit< tt) (held .held3);
 }
   where
-    either : (b : Bool) (o : ℕ) (h : Input) → h .0 < 4 → cond b (input (winner headers o (h .0))) h .0 < 4
-    either true o h l = turn-lt (remains headers o) (h .0)
-    either false o h l = l
-
     at : (o : ℕ) → o < 4 → holderAt s o < 4 → holderAt (stateAfter s headers start) o < 4
-    at o below l =
-        subst (λ (h : Input). h .0 < 4) (sym (holder-step s headers start o below)) (either (routes (s .waiting) headers && asked headers o) o (holderOf s o) l)
+    at = holder-below s headers start

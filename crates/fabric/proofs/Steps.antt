@@ -1,6 +1,6 @@
 -- The next state, output by output: rules 4, 5 and 6 as equations. Whoever speaks of the next state cites these. Assumes nothing.
-use mathlib.Core.Bool.{Bool, false, _&&_, _||_}
-use mathlib.Core.Path.{_≡_, refl, sym}
+use mathlib.Core.Bool.{Bool, true, false, cond, _&&_, _||_}
+use mathlib.Core.Path.{_≡_, refl, sym, subst}
 use mathlib.Core.List.{List}
 use Prim.Native.Nat.{ℕ, zero, suc, _<_}
 use native.Mathlib.Omega.{arith}
@@ -9,9 +9,11 @@ use borrow.Author.Tests.{le-ltb}
 use Rattle.fabric.specs.declared.state.State.{State}
 use Rattle.fabric.specs.State.{shutAt, holderOf, holderAt, openWhileWaiting, shareHolder, heldTwice, stateRefusal}
 use Rattle.routing.specs.Port.{input}
-use Rattle.routing.specs.Route.{asked, routes}
+use Rattle.routing.specs.declared.port.Input.{Input}
+use Rattle.routing.specs.Route.{asked, remains, winner, routes}
 use Rattle.fabric.specs.Cycle.{waitingAfter, shutAfter, holderAfter, stateAfter}
 use Rattle.routing.proofs.Fours.{at-four, none-of, or-left, or-right}
+use Rattle.routing.proofs.Turns.{turn-lt}
 use Rattle.fabric.proofs.States.{accepted}
 
 module _ (s : State) (headers : List ℕ) (frame : Bool) where
@@ -29,6 +31,14 @@ module _ (s : State) (headers : List ℕ) (frame : Bool) where
   pub holder-step : (o : ℕ) → o < 4 → holderOf (stateAfter s headers frame) o ≡ holderAfter (routes (s .waiting) headers) headers o (holderOf s o)
   unfolding stateAfter
   holder-step o h = at-four (λ o. holderAfter (routes (s .waiting) headers) headers o (holderOf s o)) (input 0) o h
+
+  -- and it leaves an input's number
+  pub holder-below : (o : ℕ) → o < 4 → holderAt s o < 4 → holderAt (stateAfter s headers frame) o < 4
+  holder-below o h l = subst (λ (x : Input). x .0 < 4) (sym (holder-step o h)) (go (routes (s .waiting) headers && asked headers o))
+    where
+      go : (b : Bool) → cond b (input (winner headers o (holderAt s o))) (holderOf s o) .0 < 4
+      go true = turn-lt (remains headers o) (holderAt s o)
+      go false = l
 
 -- refusal 8's six pairs, one by one and together
 six : (p q r s t u : Bool) → (p || q || r || s || t || u) ≡ false → (p ≡ false) × (q ≡ false) × (r ≡ false) × (s ≡ false) × (t ≡ false) × (u ≡ false)

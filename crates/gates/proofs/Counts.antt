@@ -9,7 +9,7 @@ use lib.Dec.{eqb, ltb}
 use lib.ListN.{getD, take, drop, List·getD-eq-default}
 use Rattle.routing.specs.Four.{bitAt}
 use Rattle.routing.proofs.Equal.{row-of}
-use Rattle.routing.proofs.Tests.{Range, flag, upto, everywhere, beq→eq}
+use Rattle.routing.proofs.Tests.{upto, flags, everywhere, beq→eq}
 use Rattle.gates.specs.Word.{kindOf, countOf, any, differ, values, made, gate, rightCount}
 
 abbrev four : Bool → Bool → Bool → Bool → List Bool
@@ -17,9 +17,6 @@ four a b c d = a ∷ b ∷ c ∷ d ∷ []
 
 abbrev one : Bool → Bool → Bool → Bool → Bool
 one a b c d = ((a || b) || c) || d
-
-abbrev flags : List Range
-flags = flag ∷ flag ∷ flag ∷ flag ∷ []
 
 abbrev counted : ℕ → ℕ → Bool
 counted k n =
@@ -41,12 +38,12 @@ spare n a b c d = one (ltb n 1 && a) (ltb n 2 && b) (ltb n 3 && c) (ltb n 4 && d
 pub any-covered : (n : ℕ) (a b c d : Bool) → n < 16 → covered n a b c d ≡ any (take n (four a b c d))
 any-covered n a b c d h =
     beq→eq _ _
-    (everywhere (upto 16 ∷ flags) (λ n a b c d. Bool·beq (covered n a b c d) (any (take n (four a b c d)))) tt n h a b c d)
+    (everywhere (upto 16 ∷ flags []) (λ n a b c d. Bool·beq (covered n a b c d) (any (take n (four a b c d)))) tt n h a b c d)
 
 pub any-spare : (n : ℕ) (a b c d : Bool) → n < 16 → spare n a b c d ≡ any (drop n (four a b c d))
 any-spare n a b c d h =
     beq→eq _ _
-    (everywhere (upto 16 ∷ flags) (λ n a b c d. Bool·beq (spare n a b c d) (any (drop n (four a b c d)))) tt n h a b c d)
+    (everywhere (upto 16 ∷ flags []) (λ n a b c d. Bool·beq (spare n a b c d) (any (drop n (four a b c d)))) tt n h a b c d)
 
 -- what the code makes for each kind
 abbrev all : ℕ → Bool → Bool → Bool → Bool → Bool
@@ -73,7 +70,7 @@ module _ (kind n : ℕ) (a b c d : Bool) where
   unfolding made
   made-known k hk hn e =
       beq→eq _ _
-      (everywhere (upto 9 ∷ upto 16 ∷ flags) (λ k n a b c d. Bool·beq (known k n a b c d) (made k (take n (four a b c d)))) tt k hk n hn a b c d)
+      (everywhere (upto 9 ∷ upto 16 ∷ flags []) (λ k n a b c d. Bool·beq (known k n a b c d) (made k (take n (four a b c d)))) tt k hk n hn a b c d)
       ∙ ap (λ (k : ℕ). made k (take n (four a b c d))) (sym e)
 
 pub made-unknown : (kind : ℕ) (bs : List Bool) → 9 ≤ kind → false ≡ made kind bs

@@ -9,11 +9,11 @@ use lib.Dec.{eqb, ltb}
 use lib.ListN.{length}
 use lib.Pow.{pow-pos, split}
 use borrow.Author.Tests.{ltb-false, eqb-true, eq-eqb, ne-eqb, not-false}
+use Rattle.routing.proofs.Fours.{or-left, or-right}
 use Rattle.gates.specs.Evaluation.{outsideLimits, bitAbove, earlyRefusal}
 
 pub neither : (a b : Bool) → (a || b) ≡ false → (a ≡ false) × (b ≡ false)
-neither true b e = absurd (let z : _≡_ {A = ℕ} 0 1 = cc in omega arith)
-neither false b e = (refl, e)
+neither a b e = (or-left a b e, or-right a b e)
 
 pub few-inputs : (m : ℕ) → (ltb m 1 || ltb 8 m) ≡ false → m ≤ 8
 few-inputs m e = ltb-false 8 m (neither (ltb m 1) (ltb 8 m) e .1)

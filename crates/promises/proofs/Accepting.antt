@@ -1,7 +1,7 @@
 -- Accepted states stay accepted. An output that opens at a routing was shut before it, as all are while the machine waits; its new
 -- holder's header names it, so no two outputs that open have one holder. Assumes nothing.
 use mathlib.Core.Bool.{Bool, true, false, cond, not, _&&_}
-use mathlib.Core.Path.{_≡_, refl, sym, ap, subst, _∙_}
+use mathlib.Core.Path.{_≡_, refl, sym, ap, _∙_}
 use mathlib.Core.List.{List}
 use Prim.Native.Nat.{ℕ, zero, suc, _<_}
 use native.Mathlib.Omega.{arith}
@@ -11,15 +11,14 @@ use Rattle.routing.specs.declared.port.Input.{Input}
 use Rattle.fabric.specs.declared.state.State.{State}
 use Rattle.routing.specs.Four.{some}
 use Rattle.routing.specs.Header.{outputAsked, headerOf, someActive}
-use Rattle.routing.specs.Port.{input}
-use Rattle.fabric.specs.State.{shutAt, holderOf, holderAt, secondRow, openWhileWaiting, shareHolder, stateRefusal}
+use Rattle.fabric.specs.State.{shutAt, holderAt, secondRow, openWhileWaiting, shareHolder, stateRefusal}
 use Rattle.routing.specs.Route.{asked, winner, routes}
 use Rattle.fabric.specs.Cycle.{shutAfter, stateAfter}
 use Rattle.fabric.specs.Run.{runOf}
 use Rattle.routing.proofs.Fours.{no-at, none-of, and-left}
 use Rattle.fabric.proofs.States.{held-at, not-open-waiting, not-twice}
-use Rattle.fabric.proofs.Steps.{waiting-step, shut-step, holder-step, no-pair, accepted-of}
-use Rattle.routing.proofs.Winners.{winner-lt, winner-output}
+use Rattle.fabric.proofs.Steps.{waiting-step, shut-step, holder-step, holder-below, no-pair, accepted-of}
+use Rattle.routing.proofs.Winners.{winner-output}
 use Rattle.promises.specs.Accepted.{Accepted, ResetAccepted, CycleAccepted, RunAccepted}
 
 and-no-left : (a b : Bool) → a ≡ false → (a && b) ≡ false
@@ -40,12 +39,7 @@ module _ (s : State) (headers : List ℕ) (frame : Bool) (ok : Accepted s) where
   next = stateAfter s headers frame
 
   below : (o : ℕ) → o < 4 → holderAt next o < 4
-  below o h = subst (λ (x : Input). x .0 < 4) (sym (holder-step s headers frame o h)) (go (routes (s .waiting) headers) (asked headers o) refl)
-    where
-      go : (r a : Bool) → asked headers o ≡ a → cond (r && a) (input (winner headers o (holderAt s o))) (holderOf s o) .0 < 4
-      go true true e = winner-lt headers o (holderAt s o) e
-      go true false e = held-at s ok o h
-      go false a e = held-at s ok o h
+  below o h = holder-below s headers frame o h (held-at s ok o h)
 
   -- the flag of an output after a frame start, after neither a frame start nor a routing, and after a routing
   shut-started : frame ≡ true → (o : ℕ) → o < 4 → shutAt next o ≡ true

@@ -17,7 +17,7 @@ use Rattle.fabric.specs.Cycle.{Machine}
 use Rattle.fabric.proofs.Calls.{answered}
 use Rattle.fabric.proofs.Equal.{state-of}
 use Rattle.routing.proofs.Equal.{row-of}
-use Rattle.routing.proofs.Masks.{bit-digit}
+use Rattle.routing.proofs.Masks.{bit-digit, bit-le}
 use Rattle.fabric.proofs.States.{held}
 use Rattle.saved.specs.declared.taking_up.TakenUp.{TakenUp}
 use Rattle.saved.specs.Saved.{wordOf, savedOf, saveRefusal, saveWrites, wordIn, stateIn, takeUpRefusal, takenUp, takeUpOf}
@@ -25,10 +25,6 @@ use Rattle.saved.proofs.Equal.{taken-up}
 use Rattle.saved.proofs.Keeps.{save-done, written-as, number-7-8, take-up-done, save-refusal-of}
 use Rattle.records.proofs.Places.{spelt}
 use Rattle.promises.specs.Kept.{FourOfEach, takenUpAs, machineIn, SavedTakenUp, TakenUpSaved}
-
-bit-le : (b : Bool) → bit b ≤ 1
-bit-le true = omega arith
-bit-le false = omega arith
 
 bit-back : (b : Bool) → eqb (bit b) 1 ≡ b
 bit-back true = refl

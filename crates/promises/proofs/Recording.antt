@@ -9,8 +9,9 @@ use lib.ListN.{getD}
 use Rattle.fabric.specs.declared.cycle.Inputs.{Inputs}
 use Rattle.routing.specs.Four.{four, bit, bitAt}
 use Rattle.routing.proofs.Equal.{two, row-of}
+use Rattle.routing.proofs.Fours.{row}
 use Rattle.routing.proofs.Masks.{in-mask}
-use Rattle.routing.proofs.Tests.{Range, flag, upto, everywhere, beq→eq}
+use Rattle.routing.proofs.Tests.{flag, upto, flags, everywhere, beq→eq}
 use Rattle.records.specs.declared.record.Answer.{Answer}
 use Rattle.records.specs.Record.{flagAt, spareSet}
 use Rattle.records.proofs.Places.{spelt}
@@ -20,17 +21,14 @@ use Rattle.promises.specs.Kept.{RecordRead, RecordMade, AnswerRead, Answ
 abbrev head : Bool → Bool → Bool → Bool → Bool → ℕ
 head f a b c d = 128 * bit f + (bit a + 2 * bit b + 4 * bit c + 8 * bit d)
 
-abbrev flags : List Range
-flags = flag ∷ flag ∷ flag ∷ flag ∷ flag ∷ []
-
 module _ (f a b c d : Bool) where
   frame-back : bitAt 7 (head f a b c d) ≡ f
-  frame-back = beq→eq _ _ (everywhere flags (λ f a b c d. Bool·beq (bitAt 7 (head f a b c d)) f) tt f a b c d)
+  frame-back = beq→eq _ _ (everywhere (flag ∷ flags []) (λ f a b c d. Bool·beq (bitAt 7 (head f a b c d)) f) tt f a b c d)
 
-  ack-back : (o : ℕ) → o < 4 → bitAt o (head f a b c d) ≡ getD (a ∷ b ∷ c ∷ d ∷ []) o false
+  ack-back : (o : ℕ) → o < 4 → bitAt o (head f a b c d) ≡ row a b c d o
   ack-back o h =
       beq→eq _ _
-      (everywhere (upto 4 ∷ flags) (λ o f a b c d. Bool·beq (bitAt o (head f a b c d)) (getD (a ∷ b ∷ c ∷ d ∷ []) o false)) tt o h f a b c d)
+      (everywhere (upto 4 ∷ flag ∷ flags []) (λ o f a b c d. Bool·beq (bitAt o (head f a b c d)) (row a b c d o)) tt o h f a b c d)
 
   acks-back : four (λ o. bitAt o (head f a b c d)) ≡ (a ∷ b ∷ c ∷ d ∷ [])
   acks-back = row-of (ack-back 0 (omega arith)) (ack-back 1 (omega arith)) (ack-back 2 (omega arith)) (ack-back 3 (omega arith))

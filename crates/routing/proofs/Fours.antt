@@ -1,10 +1,15 @@
 -- What is said of each of four, and what is said of one of them. Assumes nothing.
 use mathlib.Core.Bool.{Bool, true, false, _&&_, _||_}
 use mathlib.Core.Path.{_≡_, refl}
+use mathlib.Core.List.{[], _∷_}
 use Prim.Native.Nat.{ℕ, zero, suc, _<_}
 use native.Mathlib.Omega.{arith}
 use lib.ListN.{getD}
 use Rattle.routing.specs.Four.{four, some}
+
+-- four answers as a function that gives them
+abbrev pub row : Bool → Bool → Bool → Bool → ℕ → Bool
+row a b c d i = getD (a ∷ b ∷ c ∷ d ∷ []) i false
 
 -- an element of a row of four
 pub at-four : {A : Type 0} (f : ℕ → A) (d : A) (i : ℕ) → i < 4 → getD (four f) i d ≡ f i

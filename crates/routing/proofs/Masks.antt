@@ -1,19 +1,16 @@
 -- What the mask of four answers tells: each answer, whether there is a yes, and how many. Assumes nothing.
 use mathlib.Core.Bool.{Bool, true, false, not, _||_, Bool·beq}
 use mathlib.Core.Path.{_≡_, refl, sym, ap, _∙_}
-use mathlib.Core.List.{List, [], _∷_}
-use Prim.Native.Nat.{ℕ, _+_, _*_, _%_, _<_}
+use mathlib.Core.List.{[], _∷_}
+use Prim.Native.Nat.{ℕ, _+_, _*_, _%_, _≤_, _<_}
 use native.Mathlib.Nat.{mod-lt}
+use native.Mathlib.Omega.{arith}
 use lib.Count.{ones, onesIn}
 use lib.Dec.{eqb, eqb→eq, lit<}
-use lib.ListN.{getD}
 use borrow.Author.Tests.{eq-eqb, ne-eqb, not-true, not-false}
 use Rattle.routing.specs.Four.{some, bit, bitAt, count, mask}
-use Rattle.routing.proofs.Fours.{at-four}
-use Rattle.routing.proofs.Tests.{Range, flag, upto, everywhere, beq→eq}
-
-abbrev answers : List Range
-answers = flag ∷ flag ∷ flag ∷ flag ∷ []
+use Rattle.routing.proofs.Fours.{row, at-four}
+use Rattle.routing.proofs.Tests.{upto, flags, everywhere, beq→eq}
 
 abbrev packed : Bool → Bool → Bool → Bool → ℕ
 packed a b c d = bit a + 2 * bit b + 4 * bit c + 8 * bit d
@@ -21,19 +18,19 @@ packed a b c d = bit a + 2 * bit b + 4 * bit c + 8 * bit d
 pub packed-of : {a a' b b' c c' d d' : Bool} → a ≡ a' → b ≡ b' → c ≡ c' → d ≡ d' → packed a b c d ≡ packed a' b' c' d'
 packed-of p q r s = cc
 
-bit-of : (a b c d : Bool) (i : ℕ) → i < 4 → bitAt i (packed a b c d) ≡ getD (a ∷ b ∷ c ∷ d ∷ []) i false
+bit-of : (a b c d : Bool) (i : ℕ) → i < 4 → bitAt i (packed a b c d) ≡ row a b c d i
 bit-of a b c d i h =
     beq→eq _ _
-    (everywhere (upto 4 ∷ answers) (λ i a b c d. Bool·beq (bitAt i (packed a b c d)) (getD (a ∷ b ∷ c ∷ d ∷ []) i false)) tt i h a b c d)
+    (everywhere (upto 4 ∷ flags []) (λ i a b c d. Bool·beq (bitAt i (packed a b c d)) (row a b c d i)) tt i h a b c d)
 
 none : (a b c d : Bool) → eqb (packed a b c d) 0 ≡ not (a || b || c || d)
 none a b c d =
-    beq→eq _ _ (everywhere answers (λ a b c d. Bool·beq (eqb (packed a b c d) 0) (not (a || b || c || d))) tt a b c d)
+    beq→eq _ _ (everywhere (flags []) (λ a b c d. Bool·beq (eqb (packed a b c d) 0) (not (a || b || c || d))) tt a b c d)
 
 ones-of : (a b c d : Bool) → ones (packed a b c d) ≡ bit a + bit b + bit c + bit d
 unfolding ones onesIn
 ones-of a b c d =
-    eqb→eq _ _ (everywhere answers (λ a b c d. eqb (ones (packed a b c d)) (bit a + bit b + bit c + bit d)) tt a b c d)
+    eqb→eq _ _ (everywhere (flags []) (λ a b c d. eqb (ones (packed a b c d)) (bit a + bit b + bit c + bit d)) tt a b c d)
 
 not-not : (b : Bool) → not (not b) ≡ b
 not-not true = refl
@@ -58,3 +55,7 @@ module _ (f : ℕ → Bool) where
 -- a remainder by 2 is its own bit
 pub bit-digit : (x : ℕ) → bit (eqb (x % 2) 1) ≡ x % 2
 bit-digit x = eqb→eq _ _ (everywhere (upto 2 ∷ []) (λ d. eqb (bit (eqb d 1)) d) tt (x % 2) (mod-lt x (lit< tt)))
+
+pub bit-le : (b : Bool) → bit b ≤ 1
+bit-le true = omega arith
+bit-le false = omega arith

@@ -13,6 +13,10 @@ pub data Range : Type 0 where
   flag : Range
   upto : ℕ → Range
 
+-- four yes or no, and the arguments after them
+abbrev pub flags : List Range → List Range
+flags rs = flag ∷ flag ∷ flag ∷ flag ∷ rs
+
 abbrev pub Test : List Range → Type 0
 Test [] = Bool
 Test (flag ∷ rs) = Bool → Test rs

@@ -5,11 +5,10 @@ use mathlib.Core.List.{[], _∷_}
 use Prim.Native.Nat.{ℕ, _+_, _%_, _<_}
 use native.Mathlib.Nat.{mod-lt, mod-mod, mod-add-mod}
 use lib.Dec.{T, lit<}
-use lib.ListN.{getD}
 use Rattle.routing.specs.Four.{some}
 use Rattle.routing.specs.Turn.{inTurn}
-use Rattle.routing.proofs.Fours.{at-four}
-use Rattle.routing.proofs.Tests.{flag, upto, everywhere}
+use Rattle.routing.proofs.Fours.{row, at-four}
+use Rattle.routing.proofs.Tests.{upto, flags, everywhere}
 
 pub turn-agree : (f g : ℕ → Bool) (h : ℕ) → ((i : ℕ) → i < 4 → f i ≡ g i) → inTurn f h ≡ inTurn g h
 unfolding inTurn
@@ -32,15 +31,12 @@ turn-lt f h =
     (cond-lt (f ((h + 3) % 4)) _ _ (mod-lt (h + 3) (lit< tt)) (mod-lt h (lit< tt))))
 
 -- tested at all answers and holders: where somebody is named, the first in turn is named
-abbrev row : Bool → Bool → Bool → Bool → ℕ → Bool
-row a b c d i = getD (a ∷ b ∷ c ∷ d ∷ []) i false
-
 named : (a b c d : Bool) (h : ℕ) → h < 4 → (a || b || c || d) ≡ true → row a b c d (inTurn (row a b c d) h) ≡ true
 unfolding inTurn
 named a b c d h below-4 some-named =
     is-true (row a b c d (inTurn (row a b c d) h))
     (subst (λ (x : Bool). T (not x || row a b c d (inTurn (row a b c d) h))) some-named
-    (everywhere (upto 4 ∷ flag ∷ flag ∷ flag ∷ flag ∷ []) (λ h a b c d. not (a || b || c || d) || row a b c d (inTurn (row a b c d) h)) tt h below-4 a b c d))
+    (everywhere (upto 4 ∷ flags []) (λ h a b c d. not (a || b || c || d) || row a b c d (inTurn (row a b c d) h)) tt h below-4 a b c d))
   where
     is-true : (b : Bool) → T b → b ≡ true
     is-true true t = refl

@@ -1,16 +1,16 @@
 use mathlib.Core.Bool.{Bool, true, false}
 use mathlib.Core.Path.{_≡_, refl}
 use Prim.Native.Nat.{_≤_}
-use lib.Dec.{leb→le}
 use mir.Val.{boolByte}
 use Rattle.routing.specs.Four.{bit}
+use Rattle.routing.proofs.Masks.{bit-le}
 use borrow.Author.Needs.{needs}
 use Rattle.blocks.proofs.line.line.Statement.{statement}
 use Rattle.blocks.proofs.line.line.Tie as tie
 
 as-bit : (b : Bool) → (boolByte b ≡ bit b) × (boolByte b ≤ 1)
-as-bit true = (refl, leb→le 1 1 tt)
-as-bit false = (refl, leb→le 0 1 tt)
+as-bit true = (refl, bit-le true)
+as-bit false = (refl, bit-le false)
 
 returns : tie.Need-returns
 returns c = as-bit (c .args .b)
