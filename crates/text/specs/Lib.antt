@@ -1,0 +1,4 @@
+pub mod Ascii
+pub mod Page
+pub mod Digits
+pub mod Differ

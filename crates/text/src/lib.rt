@@ -1,0 +1,14 @@
+//! Bytes as text: what goes onto a page, numbers in digits, and the first difference of two texts.
+//!
+//! The contracts speak of the definitions in `specs/`.
+
+mod difference;
+mod digits;
+mod page;
+
+pub use difference::Difference;
+pub use difference::first_difference;
+pub use digits::put_decimal;
+pub use digits::put_hex;
+pub use page::put_byte;
+pub use page::put_text;
