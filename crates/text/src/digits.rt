@@ -23,7 +23,8 @@ pub fn put_decimal(out: &mut [u8], place: usize, n: u64) -> usize
     }
 }
 
-fn put_pair(out: &mut [u8], place: usize, b: u8) -> usize
+// The two digits of a byte.
+pub fn put_pair(out: &mut [u8], place: usize, b: u8) -> usize
     ensures { λ r. ⌜ Wrote (page (now (out .entry)) place) (hex b) (page (now (out .exit)) r) ⌝ }
 {
     let next = page::put_byte(&mut *out, place, digit(b / 16));

@@ -10,5 +10,6 @@ pub use difference::Difference;
 pub use difference::first_difference;
 pub use digits::put_decimal;
 pub use digits::put_hex;
+pub use digits::put_pair;
 pub use page::put_byte;
 pub use page::put_text;
