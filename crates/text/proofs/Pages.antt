@@ -23,8 +23,9 @@ puts-both p [] t = refl
 puts-both p (b ∷ s) t = puts-both (put p b) s t
 
 -- one text, and another after it
-pub then : {p q r : Page} {s t : List ℕ} → Wrote p s q → Wrote q t r → Wrote p (s ++ t) r
-then {p = p} {s = s} {t = t} first next = record { left = next .left ∙ ap (λ (x : Page). puts x t) (first .left) ∙ puts-both p s t }
+infixl 10 _then_
+pub _then_ : {p q r : Page} {s t : List ℕ} → Wrote p s q → Wrote q t r → Wrote p (s ++ t) r
+_then_ {p = p} {s = s} {t = t} first next = record { left = next .left ∙ ap (λ (x : Page). puts x t) (first .left) ∙ puts-both p s t }
 
 -- the same text, spelt otherwise
 pub spelt : {p q : Page} {s t : List ℕ} → Wrote p s q → s ≡ t → Wrote p t q

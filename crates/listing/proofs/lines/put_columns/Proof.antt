@@ -1,64 +1,31 @@
+use mathlib.Core.Path.{_≡_, refl, _∙_}
+use Prim.Native.Nat.{_-_}
+use native.Mathlib.Omega.{arith}
+use lib.ListN.{length, drop}
+use borrow.Author.Needs.{needs}
+use Rattle.text.specs.Page.{page}
+use Rattle.text.proofs.Pages.{_then_, Ahead, begun, went-on, ended}
+use Rattle.listing.specs.Listing.{columns}
+use Rattle.listing.proofs.Turns.{next-column, no-column}
 use Rattle.listing.proofs.lines.put_columns.Statement.{statement}
 use Rattle.listing.proofs.lines.put_columns.Tie as tie
-use Rattle.listing.proofs.lines.put_columns.Reads as reads
-use Rattle.listing.proofs.lines.put_columns.Lts as lts
-use Rattle.text.proofs.put_pair.Reads as put-pair-reads
-use Rattle.text.proofs.put_byte.Reads as put-byte-reads
 
 abbrev Inv-loop : tie.InvT-loop
-Inv-loop out₀ place bytes next₀ i₀ out next i = ?
+Inv-loop out₀ place bytes next₀ i₀ out next i = Ahead (page out₀ place) (columns bytes) (page out next) (columns (drop i bytes)) × (length out ≡ length out₀)
 
 abbrev μ-loop : tie.MeasureT-loop
-μ-loop out₀ place bytes next₀ i₀ out next i = ?
+μ-loop out₀ place bytes next₀ i₀ out next i = length bytes - i
 
--- src/lines.rt:11:5
-loop-holds : tie.Need-loop-holds Inv-loop μ-loop
-loop-holds c = ?
-
--- src/lines.rt:12:9
-put-byte-requires : tie.Need-put-byte-requires Inv-loop μ-loop
-put-byte-requires c κs = ?
-
--- src/lines.rt:13:48
-shared-slice-read-put-pair : tie.Need-shared-slice-read-put-pair Inv-loop μ-loop
-shared-slice-read-put-pair c = ?
-
--- src/lines.rt:13:9
-put-pair-requires : tie.Need-put-pair-requires Inv-loop μ-loop
-put-pair-requires c κs = ?
-
--- src/lines.rt:14:9
-add-i : tie.Need-add-i Inv-loop μ-loop
-add-i c = ?
-
--- src/lines.rt:11:5
-loop-less : tie.Need-loop-less Inv-loop μ-loop
-loop-less c = ?
-
--- src/lines.rt:11:5
 loop-again : tie.Need-loop-again Inv-loop μ-loop
-loop-again c = ?
+loop-again c =
+    let l = c .before .before .before .before .before .before .before .before .before .before .loop in
+    (went-on (l .inv .0) (next-column _ _ (c .before .before .before .before .before .before .before .before .before .loop-test .taken)) (c .before .before .before .before .before .before .before .put-byte .ensures then c .before .before .put-pair .ensures), c .before .before .put-pair .kept .0 ∙ c .before .before .before .before .before .before .before .put-byte .kept .0 ∙ l .inv .1)
 
--- src/lines.rt:6:1
-same-length : tie.Need-same-length Inv-loop μ-loop
-same-length c = ?
-
--- src/lines.rt:6:1
 returns : tie.Need-returns Inv-loop μ-loop
-returns c = ?
+returns c = ended (c .before .loop .inv .0) (no-column _ _ (c .loop-test .left))
 
 pub put-columns-spec : {M : Type 1} → statement M
 put-columns-spec =
     tie.close
-    (tie.spec
-    Inv-loop
-    μ-loop
-    loop-holds
-    put-byte-requires
-    shared-slice-read-put-pair
-    put-pair-requires
-    add-i
-    loop-less
-    loop-again
-    same-length
-    returns)
+    (tie.spec Inv-loop μ-loop (λ c. (begun refl, refl)) (λ c κs. search needs) (λ c. omega arith) (λ c κs. search needs) (λ c. omega arith) (λ c. omega arith)
+    loop-again (λ c. c .before .loop .inv .1) returns)

@@ -1,48 +1,15 @@
 use borrow.Author.Needs.{needs}
+use mathlib.Core.Bool.{Bool, true, false}
+use mathlib.Core.Path.{_≡_, sym, _∙_}
+use Rattle.text.proofs.Pages.{_then_, nothing, spelt}
 use Rattle.listing.proofs.refusal.put_index.Statement.{statement}
 use Rattle.listing.proofs.refusal.put_index.Tie as tie
-use Rattle.listing.proofs.refusal.put_index.Reads as reads
-use Rattle.listing.proofs.refusal.put_index.Lts as lts
-use Rattle.listing.proofs.refusal.gives_index.Reads as gives-index-reads
-use Rattle.text.proofs.put_decimal.Reads as put-decimal-reads
-use Rattle.text.proofs.put_text.Reads as put-text-reads
 
--- src/refusal.rt:15:8
-gives-index-requires : tie.Need-gives-index-requires
-gives-index-requires c κs = search needs
-
--- src/refusal.rt:16:53
-slice-aggregate-put-text : tie.Need-slice-aggregate-put-text
-slice-aggregate-put-text c = search needs
-
--- src/refusal.rt:16:13
-put-text-requires : tie.Need-put-text-requires
-put-text-requires c κs = search needs
-
--- src/refusal.rt:17:9
-put-decimal-requires : tie.Need-put-decimal-requires
-put-decimal-requires c κs = search needs
-
--- src/refusal.rt:12:1
-same-length : tie.Need-same-length
-same-length c = search needs
-
--- src/refusal.rt:12:1
 returns : tie.Need-returns
-returns c = ?
+returns c = spelt (c .before .before .before .before .before .before .put-text .ensures then c .before .before .put-decimal .ensures) rw (sym (c .before .before .before .before .before .before .before .before .before .before .gives-index .ensures) ∙ c .before .before .before .before .before .before .before .before .before .if1 .taken)
 
--- src/refusal.rt:12:1
 returns-2 : tie.Need-returns-2
-returns-2 c = ?
+returns-2 c = spelt (nothing _) rw (sym (c .before .gives-index .ensures) ∙ c .if1 .left)
 
 pub put-index-spec : {M : Type 1} → statement M
-put-index-spec =
-    tie.close
-    (tie.spec
-    gives-index-requires
-    slice-aggregate-put-text
-    put-text-requires
-    put-decimal-requires
-    same-length
-    returns
-    returns-2)
+put-index-spec = tie.close (tie.spec (λ c κs. search needs) (λ c. search needs) (λ c κs. search needs) (λ c κs. search needs) (λ c. search needs) returns returns-2)

@@ -6,7 +6,7 @@ use native.Mathlib.Omega.{arith}
 use borrow.Author.Needs.{needs}
 use borrow.Fn.Kinds.{In}
 use borrow.Fn.PlainCycle.{Measures, is, falls, and}
-use Rattle.text.proofs.Pages.{then, spelt}
+use Rattle.text.proofs.Pages.{_then_, spelt}
 use Rattle.text.proofs.Decimals.{few, many}
 use Rattle.text.proofs.digits.put_decimal.Reads as put-decimal
 use Rattle.text.proofs.digits.put_decimal.Kinds as put-decimal-kinds
@@ -52,4 +52,4 @@ pub +put-decimal-spec : {M : Type 1} → statement M
     (λ c. search needs)
     (λ c. spelt (c .before .before .put-byte .ensures) (ap digits (c .before .before .before .digit .ensures) ∙ sym (few _ (c .before .before .before .before .before .if1 .taken))))
     (λ c. search needs)
-    (λ c. spelt (then (c .before .before .before .before .before .before .before .put-decimal .ensures) (spelt (c .before .before .put-byte2 .ensures) (ap digits (c .before .before .before .digit2 .ensures)))) (sym (many _ (c .before .before .before .before .before .before .before .before .before .if1 .left))))
+    (λ c. spelt (c .before .before .before .before .before .before .before .put-decimal .ensures then spelt (c .before .before .put-byte2 .ensures) (ap digits (c .before .before .before .digit2 .ensures))) (sym (many _ (c .before .before .before .before .before .before .before .before .before .if1 .left))))

@@ -1,0 +1,10 @@
+use borrow.Author.Needs.{needs}
+use Rattle.text.proofs.Pages.{_then_}
+use Rattle.listing.proofs.lines.put_line.Statement.{statement}
+use Rattle.listing.proofs.lines.put_line.Tie as tie
+
+returns : tie.Need-returns
+returns c = c .before .before .before .before .before .before .before .before .before .before .before .put-decimal .ensures then c .before .before .before .before .before .before .put-columns .ensures then c .before .before .put-byte .ensures
+
+pub put-line-spec : {M : Type 1} → statement M
+put-line-spec = tie.close (tie.spec (λ c κs. search needs) (λ c. search needs) (λ c κs. search needs) (λ c κs. search needs) (λ c. search needs) returns)

@@ -1,0 +1,9 @@
+//! Judges the programs `replay` and `probe` from outside.
+//!
+//! `model` says what document 01 asks, `make` thinks up inputs, and `drive`
+//! runs the programs and compares. The model shares no code with the programs,
+//! so that one mistake can't hide in both.
+
+pub mod drive;
+pub mod make;
+pub mod model;

@@ -1,0 +1,81 @@
+//! Batches of requests, each the whole input of one run of the probe.
+
+use super::edges::edges;
+use super::requests::{header, lending, random, too_much, unknown_letter, Request};
+use super::rng::Rng;
+use super::states;
+use super::turns::{turn, TURNS};
+use crate::model::probe::LETTERS;
+
+const BATCH: usize = 300;
+/// Chosen so that a run of the default size goes through the whole table.
+const TURNS_IN_BATCH: usize = 33;
+
+/// One batch more than the calls need: the last is an empty input.
+pub fn batches(calls: usize) -> usize {
+    calls.div_ceil(BATCH) + 1
+}
+
+/// The batch with a number: the same for the same seed and number of calls.
+pub fn batch(rng: &mut Rng, number: usize, calls: usize) -> Vec<u8> {
+    let wanted = calls.saturating_sub(number * BATCH).min(BATCH);
+    if wanted == 0 {
+        return Vec::new();
+    }
+    let mut requests = if number == 0 { edges(rng) } else { Vec::new() };
+    for place in 0..TURNS_IN_BATCH {
+        requests.push(turn(rng, (number * TURNS_IN_BATCH + place) % TURNS));
+    }
+    while requests.len() < wanted {
+        requests.push(random(rng));
+    }
+    let mut input: Vec<u8> = requests[..wanted]
+        .iter()
+        .flat_map(Request::to_bytes)
+        .collect();
+    input.extend(tail(rng, number));
+    input
+}
+
+/// The end of an input: clean, too long, or cut short. What follows a
+/// request that is too long must not be answered.
+fn tail(rng: &mut Rng, number: usize) -> Vec<u8> {
+    let letter = rng.pick(LETTERS);
+    match number % 8 {
+        1 => {
+            let long = header(letter, too_much(rng));
+            followed(rng, long)
+        }
+        2 => header(unknown_letter(rng), too_much(rng)),
+        3 => {
+            let letter = rng.pick(b"RGS");
+            let rest = if letter == b'S' { 0 } else { rng.below(20) };
+            let (image, room) = (states::image(rng), too_much(rng));
+            let payload = lending(image, room, &rng.bytes(rest));
+            followed(rng, Request::new(letter, payload).to_bytes())
+        }
+        4 => header(letter, 0)[..rng.from_to(1, 4)].to_vec(),
+        5 => cut_payload(rng, letter),
+        6 => {
+            let letter = unknown_letter(rng);
+            cut_payload(rng, letter)
+        }
+        7 => header(letter, rng.from_to(1, 40)),
+        _ => Vec::new(),
+    }
+}
+
+fn followed(rng: &mut Rng, mut bytes: Vec<u8>) -> Vec<u8> {
+    for _ in 0..rng.from_to(1, 4) {
+        bytes.extend(random(rng).to_bytes());
+    }
+    bytes
+}
+
+fn cut_payload(rng: &mut Rng, letter: u8) -> Vec<u8> {
+    let length = rng.from_to(2, 60);
+    let mut bytes = header(letter, length);
+    let kept = rng.from_to(1, length - 1);
+    bytes.extend(vec![0; kept]);
+    bytes
+}

@@ -1,0 +1,12 @@
+//! Inputs for the programs, all settled by a seed.
+
+pub mod batches;
+pub mod captures;
+mod edges;
+mod frames;
+mod requests;
+pub mod rng;
+mod spoil;
+mod states;
+mod turns;
+mod words;

@@ -1,0 +1,55 @@
+//! The model: document 01 in ordinary code.
+
+mod answers;
+pub mod cycle;
+#[cfg(test)]
+mod document;
+#[cfg(test)]
+mod frame_claims;
+pub mod gates;
+pub mod listing;
+pub mod probe;
+pub mod replay;
+pub mod saved;
+pub mod state;
+pub mod wrong;
+
+use wrong::Wrong;
+
+/// The rules, with at most one of them broken on purpose. The judge uses
+/// `RIGHT` only; the fakes break a rule so that the judge can be judged.
+#[derive(Clone, Copy)]
+pub struct Model {
+    wrong: Option<Wrong>,
+}
+
+pub const RIGHT: Model = Model { wrong: None };
+
+impl Model {
+    pub fn with(wrong: Option<Wrong>) -> Model {
+        Model { wrong }
+    }
+
+    pub fn has(&self, wrong: Wrong) -> bool {
+        self.wrong == Some(wrong)
+    }
+}
+
+/// A refusal number and its index; 0 is done, and the index is 0 where none
+/// is given.
+#[derive(Clone, Copy, Debug, PartialEq, Eq)]
+pub struct Verdict {
+    pub number: u32,
+    pub index: usize,
+}
+
+pub const DONE: Verdict = Verdict {
+    number: 0,
+    index: 0,
+};
+
+/// The first number whose test holds: the order of the list is the order of
+/// the refusals.
+pub fn first_refusal(tests: &[(u32, bool)]) -> u32 {
+    tests.iter().find(|test| test.1).map_or(0, |test| test.0)
+}
