@@ -1,0 +1,75 @@
+-- An input of any size: what is kept of it is printed as the whole would be. Assumes nothing.
+use mathlib.Core.Bool.{Bool, true, false, cond}
+use mathlib.Core.Path.{_≡_, refl, sym, ap, _∙_}
+use mathlib.Core.List.{List, _∷_}
+use Prim.Native.Nat.{ℕ, zero, suc, _+_, _%_, _≤_, _<_, min}
+use native.Mathlib.Omega.{arith}
+use lib.Dec.{ltb}
+use lib.ListN.{length, take, replicate, length-replicate}
+use lib.Seq.{take-all, take-length, length-take-le}
+use borrow.Author.Tests.{lt-ltb, le-ltb, ltb-true, ltb-false}
+use Rattle.text.specs.declared.difference.Difference.{Difference}
+use Rattle.text.specs.Page.{Page, Wrote}
+use Rattle.text.proofs.Pages.{spelt}
+use Rattle.routing.proofs.Equal.{two}
+use Rattle.capture.specs.Replay.{replayOf, replayWrites}
+use Rattle.comparison.specs.Agreement.{isSame}
+use Rattle.comparison.specs.Verdict.{outcomeText, verdictText}
+use Rattle.comparison.specs.Both.{resetMachine, bothDiffer, bothText, keptLength, kept, printed}
+use Rattle.comparison.proofs.Agreements.{agrees-with-itself}
+
+pub kept-long : (n : ℕ) → 65536 < n → 65530 + n % 5 ≡ keptLength n
+kept-long n h = rw (lt-ltb 65536 n h)
+
+pub kept-whole : (n : ℕ) → n ≤ 65536 → n ≡ keptLength n
+kept-whole n h = rw (le-ltb 65536 n h)
+
+abbrev zeros : ℕ → List ℕ
+zeros n = replicate n 0
+
+take-zeros : (n m : ℕ) → n ≤ m → take n (zeros m) ≡ zeros n
+take-zeros zero m h = refl
+take-zeros (suc n) zero h = absurd (omega (arith, h))
+take-zeros (suc n) (suc m) h = ap (λ (l : List ℕ). 0 ∷ l) (take-zeros n m (omega (arith, h)))
+
+pub zeros-length : (n : ℕ) {z : List ℕ} → z ≡ zeros 65536 → n ≤ 65536 → n ≡ length (take n z)
+zeros-length n e h = sym (ap (λ (l : List ℕ). length (take n l)) e ∙ ap length (take-zeros n 65536 h) ∙ length-replicate n 0)
+
+take-min : (n : ℕ) (l : List ℕ) → take (min n (length l)) l ≡ take n l
+take-min n l = by-size (ltb (length l) n) refl where
+  by-size : (b : Bool) → ltb (length l) n ≡ b → take (min n (length l)) l ≡ take n l
+  by-size true e =
+      let long : length l ≤ n = omega (arith, ltb-true (length l) n e) in
+      let all : min n (length l) ≡ length l = omega (arith, long) in
+      ap (λ (k : ℕ). take k l) all ∙ take-length l ∙ sym (take-all n l long)
+  by-size false e =
+      let some : min n (length l) ≡ n = omega (arith, ltb-false (length l) n e) in ap (λ (k : ℕ). take k l) some
+
+-- both engines on a capture, each into as many zeros: they agree, and what is to be printed is said
+both-print : (capture z : List ℕ) → z ≡ zeros (length capture) → (isSame (bothDiffer capture z z) ≡ true) × (bothText capture z z ≡ printed capture)
+unfolding printed
+both-print capture z e =
+    let same = agrees-with-itself (replayOf resetMachine capture (length z)) (replayWrites resetMachine capture z) in
+    let said : bothText capture z z ≡ outcomeText (replayOf resetMachine capture (length z)) (replayWrites resetMachine capture z) = ap (λ (d : Difference). verdictText d (replayOf resetMachine capture (length z)) (replayWrites resetMachine capture z)) same in
+    let long : length z ≡ length capture = ap length e ∙ length-replicate (length capture) 0 in
+    (ap isSame same, said ∙ two outcomeText (ap (replayOf resetMachine capture) long) (ap (replayWrites resetMachine capture) e))
+
+module _ (bytes : List ℕ) (total n : ℕ) (is : n ≡ min (keptLength total) (length bytes)) (fits : n ≤ 65536) {plain gates : List ℕ} (ep : plain ≡ zeros 65536) (eg : gates ≡ zeros 65536) where
+  cut : take n bytes ≡ kept bytes total
+  cut = ap (λ (k : ℕ). take k bytes) is ∙ take-min (keptLength total) bytes
+
+  long : length (take n bytes) ≡ n
+  long = length-take-le n bytes (omega (arith, is))
+
+  as-zeros : {z : List ℕ} → z ≡ zeros 65536 → take n z ≡ zeros (length (take n bytes))
+  as-zeros e = ap (take n) e ∙ take-zeros n 65536 fits ∙ ap zeros (sym long)
+
+  pub both-said : {agreed : Bool} {before after : Page}
+      → (agreed ≡ isSame (bothDiffer (take n bytes) (take n plain) (take n gates))) × Wrote before (bothText (take n bytes) (take n plain) (take n gates)) after
+      → (agreed ≡ true) × Wrote before (printed (kept bytes total)) after
+  both-said said =
+      let p = both-print (take n bytes) (take n plain) (as-zeros ep) in
+      let z : take n gates ≡ take n plain = ap (take n) (eg ∙ sym ep) in (
+        said .0 ∙ ap (λ (g : List ℕ). isSame (bothDiffer (take n bytes) (take n plain) g)) z ∙ p .0,
+        spelt (said .1) (ap (bothText (take n bytes) (take n plain)) z ∙ p .1 ∙ ap printed cut),
+      )

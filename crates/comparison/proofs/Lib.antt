@@ -1,0 +1,4 @@
+pub mod Agreements
+pub mod Verdicts
+pub mod Inputs
+pub mod Whole

@@ -1,0 +1,35 @@
+-- An input of any size from reset. Its first 65,536 bytes are kept and the rest is counted.
+use mathlib.Core.Bool.{cond}
+use mathlib.Core.List.{List}
+use Prim.Native.Nat.{ℕ, _+_, _%_}
+use lib.Dec.{ltb}
+use lib.ListN.{length, take, replicate}
+use Rattle.fabric.specs.State.{resetState, resetRows}
+use Rattle.fabric.specs.Cycle.{Machine, machine}
+use Rattle.capture.specs.Replay.{replayOf, replayWrites}
+use Rattle.text.specs.declared.difference.Difference.{Difference}
+use Rattle.comparison.specs.Agreement.{disagreementOf}
+use Rattle.comparison.specs.Verdict.{outcomeText, verdictText}
+
+abbrev pub resetMachine : Machine
+resetMachine = machine resetState resetRows
+
+-- both engines into a buffer each: where they differ, and what is to be said of it
+abbrev pub bothDiffer : List ℕ → List ℕ → List ℕ → Difference
+bothDiffer capture plain gates =
+    disagreementOf (replayOf resetMachine capture (length plain)) (replayOf resetMachine capture (length gates)) (replayWrites resetMachine capture plain) (replayWrites resetMachine capture gates)
+
+abbrev pub bothText : List ℕ → List ℕ → List ℕ → List ℕ
+bothText capture plain gates = verdictText (bothDiffer capture plain gates) (replayOf resetMachine capture (length plain)) (replayWrites resetMachine capture plain)
+
+-- what is to be printed of a capture, replayed from reset into a buffer of its own length
+unfoldable pub printed : List ℕ → List ℕ
+printed capture = outcomeText (replayOf resetMachine capture (length capture)) (replayWrites resetMachine capture (replicate (length capture) 0))
+
+-- how many of the kept bytes stand for an input of n bytes: all of them; of one that is too long to keep, which is over the limit of refusal 4
+-- in any case, so many that the same bytes are left over after the last whole record
+abbrev pub keptLength : ℕ → ℕ
+keptLength n = cond (ltb 65536 n) (65530 + n % 5) n
+
+abbrev pub kept : List ℕ → ℕ → List ℕ
+kept bytes n = take (keptLength n) bytes

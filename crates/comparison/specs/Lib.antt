@@ -1,0 +1,3 @@
+pub mod Agreement
+pub mod Verdict
+pub mod Both
