@@ -1,4 +1,6 @@
 //! The driver: judges two programs by the model, or itself by the fakes.
+//! The options are told in `drive::options::USAGE`. Status 0 is a good run,
+//! 1 a difference or too little seen, 2 a bad command line.
 
 use outside_model::drive::examples::read_folder;
 use outside_model::drive::options::{Options, CALLS, CAPTURES, USAGE};

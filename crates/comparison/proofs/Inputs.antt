@@ -15,7 +15,7 @@ use Rattle.routing.proofs.Equal.{two}
 use Rattle.capture.specs.Replay.{replayOf, replayWrites}
 use Rattle.comparison.specs.Agreement.{isSame}
 use Rattle.comparison.specs.Verdict.{outcomeText, verdictText}
-use Rattle.comparison.specs.Both.{resetMachine, bothDiffer, bothText, keptLength, kept, printed}
+use Rattle.comparison.specs.Both.{resetMachine, zeros, bothDiffer, bothText, keptLength, kept, printed}
 use Rattle.comparison.proofs.Agreements.{agrees-with-itself}
 
 pub kept-long : (n : ℕ) → 65536 < n → 65530 + n % 5 ≡ keptLength n
@@ -23,9 +23,6 @@ kept-long n h = rw (lt-ltb 65536 n h)
 
 pub kept-whole : (n : ℕ) → n ≤ 65536 → n ≡ keptLength n
 kept-whole n h = rw (le-ltb 65536 n h)
-
-abbrev zeros : ℕ → List ℕ
-zeros n = replicate n 0
 
 take-zeros : (n m : ℕ) → n ≤ m → take n (zeros m) ≡ zeros n
 take-zeros zero m h = refl

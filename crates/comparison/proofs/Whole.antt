@@ -5,10 +5,11 @@ use mathlib.Core.List.{List}
 use Prim.Native.Nat.{ℕ, _+_, _%_, _≤_, _<_}
 use native.Mathlib.Omega.{arith}
 use lib.Dec.{eqb, ltb}
-use lib.ListN.{length, take, replicate}
+use lib.ListN.{length, take, length-replicate}
 use lib.Seq.{take-all, length-take-le}
 use borrow.Author.Tests.{ltb-true, ltb-false, eqb-true, eqb-false}
-use Rattle.fabric.specs.State.{resetState}
+use Rattle.routing.proofs.Equal.{two}
+use Rattle.fabric.specs.State.{resetState, stateRefusal}
 use Rattle.capture.specs.declared.refusal.Judged.{Judged}
 use Rattle.capture.specs.declared.refusal.Judged.the-variants.{Refused}
 use Rattle.capture.specs.Capture.{records}
@@ -17,16 +18,56 @@ use Rattle.capture.specs.Replay.{replayedAs, writtenAs}
 use Rattle.capture.proofs.Fates.{number-1, number-4, refused-early}
 use Rattle.listing.specs.Refusal.{refusalLine}
 use Rattle.comparison.specs.Verdict.{outcomeText}
-use Rattle.comparison.specs.Both.{resetMachine, keptLength, kept, printed}
+use Rattle.comparison.specs.Both.{resetMachine, zeros, keptLength, kept, printed}
 use Rattle.comparison.proofs.Inputs.{kept-long, kept-whole}
 
 module _ (capture : List ℕ) where
-  printedAs : Judged → List ℕ
-  printedAs j = outcomeText (replayedAs j resetMachine capture) (writtenAs j resetMachine capture (replicate (length capture) 0))
+  abbrev printedAs : Judged → List ℕ
+  printedAs j = outcomeText (replayedAs j resetMachine capture) (writtenAs j resetMachine capture (zeros (length capture)))
+
+  same-room : length (zeros (length capture)) ≡ length capture
+  same-room = length-replicate (length capture) 0
+
+  printed-by : {j : Judged} → j ≡ judged resetState capture (length capture) → printed capture ≡ printedAs j
+  unfolding printed
+  printed-by {j = j} is =
+      let room : judged resetState capture (length capture) ≡ judged resetState capture (length (zeros (length capture))) = ap (judged resetState capture) (sym same-room) in
+      two (λ (r w : Judged). outcomeText (replayedAs r resetMachine capture) (writtenAs w resetMachine capture (zeros (length capture)))) (sym is) (sym room ∙ sym is)
 
   -- 1 goes before 4, and where one of the two is given nothing but the length counts
   bytes-left : ¬ (length capture % 5 ≡ 0) → printed capture ≡ refusalLine 1 0
-  bytes-left h = ?
+  unfolding outcomeText stateRefusal
+  bytes-left h = printed-by (refused-early resetState capture (length capture) (number-1 resetState capture (length capture) refl refl h) (λ z. omega (arith, z)))
 
   too-many : length capture % 5 ≡ 0 → limit < records capture → printed capture ≡ refusalLine 4 0
-  too-many h over = ?
+  unfolding outcomeText stateRefusal
+  too-many h over = printed-by (refused-early resetState capture (length capture) (number-4 resetState capture (length capture) refl refl h over) (λ z. omega (arith, z)))
+
+-- two captures over the limit that leave the same bytes over
+alike : (a b : List ℕ) (left : Bool) → eqb (length a % 5) 0 ≡ left → length a % 5 ≡ length b % 5 → limit < records a → limit < records b → printed a ≡ printed b
+alike a b true e same ha hb =
+    let none : length a % 5 ≡ 0 = eqb-true _ _ e in too-many a none ha ∙ sym (too-many b (sym same ∙ none) hb)
+alike a b false e same ha hb =
+    let some : ¬ (length a % 5 ≡ 0) = eqb-false _ _ e in bytes-left a some ∙ sym (bytes-left b (λ z. some (same ∙ z)))
+
+module _ (whole : List ℕ) where
+  -- what is kept of the whole
+  abbrev start : List ℕ
+  start = take 65536 whole
+
+  by-size : (b : Bool) → ltb 65536 (length whole) ≡ b → printed (kept start (length whole)) ≡ printed whole
+  by-size true e =
+      let more : 65536 < length whole = ltb-true _ _ e in
+      let n = keptLength (length whole) in
+      let is : n ≡ 65530 + length whole % 5 = sym (kept-long (length whole) more) in
+      let long : length start ≡ 65536 = length-take-le 65536 whole (omega (arith, more)) in
+      let l : length (take n start) ≡ n = length-take-le n start (omega (arith, is, long)) in
+      alike (take n start) whole (eqb (length (take n start) % 5) 0) refl (omega (arith, l, is)) (omega (arith, l, is)) (omega (arith, more))
+  by-size false e =
+      let fits : length whole ≤ 65536 = ltb-false _ _ e in
+      let n = keptLength (length whole) in
+      let is : length whole ≡ n = kept-whole (length whole) fits in
+      ap printed (ap (take n) (take-all 65536 whole fits) ∙ take-all n whole (omega (arith, is)))
+
+  pub whole-input : printed (kept start (length whole)) ≡ printed whole
+  whole-input = by-size (ltb 65536 (length whole)) refl

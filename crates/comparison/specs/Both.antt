@@ -22,9 +22,12 @@ bothDiffer capture plain gates =
 abbrev pub bothText : List ℕ → List ℕ → List ℕ → List ℕ
 bothText capture plain gates = verdictText (bothDiffer capture plain gates) (replayOf resetMachine capture (length plain)) (replayWrites resetMachine capture plain)
 
+abbrev pub zeros : ℕ → List ℕ
+zeros n = replicate n 0
+
 -- what is to be printed of a capture, replayed from reset into a buffer of its own length
 unfoldable pub printed : List ℕ → List ℕ
-printed capture = outcomeText (replayOf resetMachine capture (length capture)) (replayWrites resetMachine capture (replicate (length capture) 0))
+printed capture = outcomeText (replayOf resetMachine capture (length capture)) (replayWrites resetMachine capture (zeros (length capture)))
 
 -- how many of the kept bytes stand for an input of n bytes: all of them; of one that is too long to keep, which is over the limit of refusal 4
 -- in any case, so many that the same bytes are left over after the last whole record

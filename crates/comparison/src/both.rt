@@ -2,10 +2,9 @@
 ghost use mathlib.Core.Bool.{true};
 ghost use mathlib.Core.Path.{_≡_};
 ghost use Prim.Native.Nat.{_≤_, min};
-ghost use lib.ListN.{replicate};
 ghost use Rattle.text.specs.Page.{page, Wrote};
 ghost use Rattle.comparison.specs.Agreement.{isSame};
-ghost use Rattle.comparison.specs.Both.{bothDiffer, bothText, keptLength, kept, printed};
+ghost use Rattle.comparison.specs.Both.{zeros as Both·zeros, bothDiffer, bothText, keptLength, kept, printed};
 use super::verdict;
 use super::verdict::Verdict;
 
@@ -31,7 +30,7 @@ fn kept_length(total: u64) -> usize
 }
 
 fn zeros() -> [u8; 65536]
-    ensures { λ r. ⌜ r ≡ replicate 65536 0 ⌝ }
+    ensures { λ r. ⌜ r ≡ Both·zeros 65536 ⌝ }
 {
     [0; 65536]
 }

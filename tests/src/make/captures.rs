@@ -34,6 +34,9 @@ const SPOILED: &[(usize, u8, u8)] = &[
     (FULL + RECORD + 1, 0x10, 0),
 ];
 
+/// How many captures of nothing but meetings every run sends.
+const MEETINGS: usize = 4;
+
 /// The capture of document 01 that is given whole.
 pub fn document_capture() -> Vec<u8> {
     let mut capture: Vec<u8> = (0..11).flat_map(|_| [0x02, 0, 0, 0, 0]).collect();
@@ -57,11 +60,22 @@ pub fn capture(rng: &mut Rng, number: usize) -> Vec<u8> {
         .flat_map(|&(least, most)| least..=most)
         .map(|length| (length, 0, 0))
         .chain(SPOILED.iter().copied());
-    match number.checked_sub(1).map(|place| fixed.nth(place)) {
-        None => document_capture(),
-        Some(Some((length, first, last))) => edge(rng, length, first, last),
-        Some(None) => random(rng),
+    match number {
+        0 => document_capture(),
+        1..=MEETINGS => meetings(rng),
+        _ => match fixed.nth(number - MEETINGS - 1) {
+            Some((length, first, last)) => edge(rng, length, first, last),
+            None => random(rng),
+        },
     }
+}
+
+/// Many starts that meet a routing: what goes wrong there shows only later,
+/// in a turn for the same output.
+fn meetings(rng: &mut Rng) -> Vec<u8> {
+    let mut tape = Tape::new(rng);
+    tape.meetings(rng, 400);
+    tape.bytes
 }
 
 fn edge(rng: &mut Rng, length: usize, first: u8, last: u8) -> Vec<u8> {

@@ -17,6 +17,9 @@ pub struct Tape {
     pub bytes: Vec<u8>,
     acks: Acks,
     zeros_when_quiet: bool,
+    /// The output of bits 3..2 that inputs contend for, frame after frame,
+    /// so that a holder left wrong shows in a later turn.
+    favourite: u8,
 }
 
 impl Tape {
@@ -30,6 +33,7 @@ impl Tape {
             bytes: Vec::new(),
             acks,
             zeros_when_quiet: rng.once_in(2),
+            favourite: rng.byte() & 0x0C,
         }
     }
 
@@ -41,7 +45,7 @@ impl Tape {
         let acks = match self.acks {
             Acks::Random => rng.byte() & 15,
             Acks::Fixed(mask) => mask,
-            Acks::Seldom => 1 << rng.below(16) & 15,
+            Acks::Seldom => (1 << rng.below(16) & 15) as u8,
         };
         self.bytes.push(u8::from(start) << 7 | acks);
         self.bytes.extend(bytes);
@@ -65,11 +69,11 @@ impl Tape {
         (0..cycles).for_each(|_| self.quiet(rng, false));
     }
 
-    /// One to four cells: all for one output, or each for any.
+    /// One to four cells: all for the favourite output, or each for any.
     fn headers(&mut self, rng: &mut Rng) {
         let sure = rng.below(4);
         let fill = rng.pick(&[1, 1, 2, 4]);
-        let common = rng.once_in(2).then(|| rng.byte() & 0x0C);
+        let common = rng.once_in(2).then_some(self.favourite);
         let bytes = from_fn(|input| {
             if input == sure || rng.once_in(fill) {
                 let random = rng.byte() | 1;

@@ -7,14 +7,14 @@ impl Rng {
     /// whatever else ran beside it.
     pub fn for_work(seed: u64, stream: u64, index: usize) -> Rng {
         let mut rng = Rng(seed);
-        let mixed = rng.next() ^ stream.wrapping_mul(0xD6E8_FEB8_6659_FD93);
+        let mixed = rng.draw() ^ stream.wrapping_mul(0xD6E8_FEB8_6659_FD93);
         let mut rng = Rng(mixed);
-        let mixed = rng.next().wrapping_add(index as u64);
+        let mixed = rng.draw().wrapping_add(index as u64);
         let mut rng = Rng(mixed);
-        Rng(rng.next())
+        Rng(rng.draw())
     }
 
-    pub fn next(&mut self) -> u64 {
+    pub fn draw(&mut self) -> u64 {
         self.0 = self.0.wrapping_add(0x9E37_79B9_7F4A_7C15);
         let mut z = self.0;
         z = (z ^ z >> 30).wrapping_mul(0xBF58_476D_1CE4_E5B9);
@@ -24,7 +24,7 @@ impl Rng {
 
     /// A number under `end`, which is not 0.
     pub fn below(&mut self, end: usize) -> usize {
-        (self.next() % end as u64) as usize
+        (self.draw() % end as u64) as usize
     }
 
     /// A number from `least` to `most`, both possible.
@@ -38,7 +38,7 @@ impl Rng {
     }
 
     pub fn byte(&mut self) -> u8 {
-        self.next() as u8
+        self.draw() as u8
     }
 
     pub fn bytes(&mut self, length: usize) -> Vec<u8> {

@@ -40,7 +40,7 @@ pub fn good(rng: &mut Rng, count: usize, length: usize) -> Block {
     let words = words.collect();
     Block {
         count: count as u64,
-        input: rng.next() & ((1 << count) - 1),
+        input: rng.draw() & ((1 << count) - 1),
         words,
     }
 }
