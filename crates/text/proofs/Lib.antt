@@ -1,3 +1,4 @@
 pub mod Pages
+pub mod Room
 pub mod Decimals
 pub mod Differences
