@@ -98,8 +98,8 @@ fn count_rest() -> Taken
 }
 
 // Keeps the start of the input in the buffer and counts all of it.
-pub fn take_in(buf: &mut [u8; 65536]) -> Taken {
-    let start = fill(buf);
+pub fn take_in(buf: &mut [u8]) -> Taken {
+    let start = fill(&mut *buf);
     let kept = start.length as u64;
     if start.failed {
         return Taken {
@@ -107,7 +107,7 @@ pub fn take_in(buf: &mut [u8; 65536]) -> Taken {
             failed: true,
         };
     }
-    if start.length < 65536 {
+    if start.length < buf.len() {
         return Taken {
             total: kept,
             failed: false,
