@@ -10,6 +10,7 @@ use lib.Seq.{take-all, take-length, length-take-le}
 use borrow.Author.Tests.{lt-ltb, le-ltb, ltb-true, ltb-false}
 use Rattle.text.specs.declared.difference.Difference.{Difference}
 use Rattle.text.specs.Page.{Page, Wrote}
+use Rattle.text.proofs.Lists.{take-replicate, take-min}
 use Rattle.text.proofs.Pages.{spelt}
 use Rattle.routing.proofs.Equal.{two}
 use Rattle.capture.specs.Replay.{replayOf, replayWrites}
@@ -23,24 +24,6 @@ kept-long n h = rw (lt-ltb 65536 n h)
 
 pub kept-whole : (n : ℕ) → n ≤ 65536 → n ≡ keptLength n
 kept-whole n h = rw (le-ltb 65536 n h)
-
-take-zeros : (n m : ℕ) → n ≤ m → take n (zeros m) ≡ zeros n
-take-zeros zero m h = refl
-take-zeros (suc n) zero h = absurd (omega (arith, h))
-take-zeros (suc n) (suc m) h = ap (λ (l : List ℕ). 0 ∷ l) (take-zeros n m (omega (arith, h)))
-
-pub zeros-length : (n : ℕ) {z : List ℕ} → z ≡ zeros 65536 → n ≤ 65536 → n ≡ length (take n z)
-zeros-length n e h = sym (ap (λ (l : List ℕ). length (take n l)) e ∙ ap length (take-zeros n 65536 h) ∙ length-replicate n 0)
-
-take-min : (n : ℕ) (l : List ℕ) → take (min n (length l)) l ≡ take n l
-take-min n l = by-size (ltb (length l) n) refl where
-  by-size : (b : Bool) → ltb (length l) n ≡ b → take (min n (length l)) l ≡ take n l
-  by-size true e =
-      let long : length l ≤ n = omega (arith, ltb-true (length l) n e) in
-      let all : min n (length l) ≡ length l = omega (arith, long) in
-      ap (λ (k : ℕ). take k l) all ∙ take-length l ∙ sym (take-all n l long)
-  by-size false e =
-      let some : min n (length l) ≡ n = omega (arith, ltb-false (length l) n e) in ap (λ (k : ℕ). take k l) some
 
 -- both engines on a capture, each into as many zeros: they agree, and what is to be printed is said
 both-print : (capture z : List ℕ) → z ≡ zeros (length capture) → (isSame (bothDiffer capture z z) ≡ true) × (bothText capture z z ≡ printed capture)
@@ -59,7 +42,7 @@ module _ (bytes : List ℕ) (total n : ℕ) (is : n ≡ min (keptLength total) (
   long = length-take-le n bytes (omega (arith, is))
 
   as-zeros : {z : List ℕ} → z ≡ zeros 65536 → take n z ≡ zeros (length (take n bytes))
-  as-zeros e = ap (take n) e ∙ take-zeros n 65536 fits ∙ ap zeros (sym long)
+  as-zeros e = ap (take n) e ∙ take-replicate 0 n 65536 fits ∙ ap zeros (sym long)
 
   pub both-said : {agreed : Bool} {before after : Page}
       → (agreed ≡ isSame (bothDiffer (take n bytes) (take n plain) (take n gates))) × Wrote before (bothText (take n bytes) (take n plain) (take n gates)) after

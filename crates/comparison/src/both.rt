@@ -1,7 +1,7 @@
 // An input of any size through both engines from reset. Its first 65,536 bytes are kept, and the rest is counted.
 ghost use mathlib.Core.Bool.{true};
 ghost use mathlib.Core.Path.{_≡_};
-ghost use Prim.Native.Nat.{_≤_, min};
+ghost use Prim.Native.Nat.{_≤_};
 ghost use Rattle.text.specs.Page.{page, Wrote};
 ghost use Rattle.comparison.specs.Agreement.{isSame};
 ghost use Rattle.comparison.specs.Both.{zeros as Both·zeros, bothDiffer, bothText, keptLength, kept, printed};
@@ -35,19 +35,13 @@ fn zeros() -> [u8; 65536]
     [0; 65536]
 }
 
-fn shorter(a: usize, b: usize) -> usize
-    ensures { λ r. ⌜ r ≡ min a b ⌝ }
-{
-    if a < b { a } else { b }
-}
-
 // `bytes` are what is kept of an input of `total` bytes.
 pub fn replay_by_both(bytes: &[u8], total: u64, out: &mut [u8]) -> Verdict
     ensures agreed { λ r. ⌜ r .agreed ≡ true ⌝ }
     ensures writes { λ r. ⌜ Wrote (page (now (out .entry)) 0) (printed (kept (now (bytes .entry)) total)) (page (now (out .exit)) (r .length)) ⌝ }
 {
     let most = kept_length(total);
-    let n = shorter(most, bytes.len());
+    let n = text::shorter(most, bytes.len());
     let mut plain = zeros();
     let mut gates = zeros();
     replay_into(&bytes[..n], &mut plain[..n], &mut gates[..n], out)

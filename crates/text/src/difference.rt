@@ -8,7 +8,8 @@ pub enum Difference {
     At(usize),
 }
 
-fn shorter(a: usize, b: usize) -> usize
+// The lesser of two lengths.
+pub fn shorter(a: usize, b: usize) -> usize
     ensures { λ r. ⌜ r ≡ min a b ⌝ }
 {
     if a < b { a } else { b }

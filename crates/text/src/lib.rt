@@ -8,6 +8,7 @@ mod page;
 
 pub use difference::Difference;
 pub use difference::first_difference;
+pub use difference::shorter;
 pub use digits::put_decimal;
 pub use digits::put_hex;
 pub use digits::put_pair;

@@ -4,7 +4,8 @@ use native.Mathlib.Omega.{arith}
 use lib.ListN.{length}
 use lib.Seq.{length-take-le}
 use borrow.Author.Needs.{needs}
-use Rattle.comparison.proofs.Inputs.{both-said, zeros-length}
+use Rattle.text.proofs.Lists.{part-length}
+use Rattle.comparison.proofs.Inputs.{both-said}
 use Rattle.comparison.proofs.both.replay_by_both.Statement.{statement}
 use Rattle.comparison.proofs.both.replay_by_both.Tie as tie
 
@@ -21,5 +22,5 @@ replay-by-both-spec =
     tie.close
     (tie.spec (λ c κs. search needs) (λ c κs. search needs) (λ c κs. search needs) (λ c κs. search needs)
     (λ c. sym (length-take-le (c .before .before .before .shorter .result) (c .before .before .before .before .before .before .before .args .bytes .now) (omega (arith, c .before .before .before .shorter .ensures)))) (λ c. search needs)
-    (λ c. zeros-length _ (c .before .before .before .zeros .ensures) (omega (arith, c .before .before .before .before .shorter .ensures, c .before .before .before .before .before .kept-length .ensures .1))) (λ c. search needs)
-    (λ c. zeros-length _ (c .before .before .before .zeros2 .ensures) (omega (arith, c .before .before .before .before .before .shorter .ensures, c .before .before .before .before .before .before .kept-length .ensures .1))) (λ c κs. search needs) (λ c. search needs) returns)
+    (λ c. part-length 0 _ 65536 (c .before .before .before .zeros .ensures) (omega (arith, c .before .before .before .before .shorter .ensures, c .before .before .before .before .before .kept-length .ensures .1))) (λ c. search needs)
+    (λ c. part-length 0 _ 65536 (c .before .before .before .zeros2 .ensures) (omega (arith, c .before .before .before .before .before .shorter .ensures, c .before .before .before .before .before .before .kept-length .ensures .1))) (λ c κs. search needs) (λ c. search needs) returns)

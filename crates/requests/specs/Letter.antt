@@ -1,0 +1,29 @@
+-- One letter for each call.
+use mathlib.Core.Bool.{Bool, cond, _&&_, _||_}
+use mathlib.Core.List.{List}
+use Prim.Native.Nat.{ℕ}
+use Prim.Native.Char.{code}
+use lib.Dec.{eqb, ltb, leb}
+use lib.ListN.{length}
+use Rattle.text.specs.Ascii.{ascii}
+use Rattle.requests.specs.Parts.{wordAt}
+use Rattle.requests.specs.Cycle.{cycleLine, gateLine}
+use Rattle.requests.specs.Replay.{replayLine}
+use Rattle.requests.specs.State.{saveLine, takeUpLine}
+use Rattle.requests.specs.Evaluate.{evaluateLine}
+
+-- a request that is well-formed asks for a buffer of more than 65,536 bytes
+abbrev pub tooLong : ℕ → List ℕ → Bool
+tooLong letter payload =
+    ((eqb letter (code "R") || eqb letter (code "G")) && leb 29 (length payload) || eqb letter (code "S") && eqb (length payload) 29)
+    && ltb 65536 (wordAt payload 25)
+
+unfoldable pub lineOf : ℕ → List ℕ → List ℕ
+lineOf letter payload =
+    cond (eqb letter (code "C")) (cycleLine payload)
+    (cond (eqb letter (code "D")) (gateLine payload)
+    (cond (eqb letter (code "R")) (replayLine payload)
+    (cond (eqb letter (code "G")) (replayLine payload)
+    (cond (eqb letter (code "S")) (saveLine payload)
+    (cond (eqb letter (code "T")) (takeUpLine payload)
+    (cond (eqb letter (code "E")) (evaluateLine payload) (ascii "unknown\n")))))))

@@ -1,0 +1,34 @@
+// One letter for each call.
+ghost use mathlib.Core.Path.{_≡_};
+ghost use Rattle.text.specs.Page.{page, Wrote};
+ghost use Rattle.requests.specs.Letter.{tooLong, lineOf};
+use super::cycle;
+use super::evaluate;
+use super::parts;
+use super::replay;
+use super::state;
+
+// A buffer is asked for that is longer than there is room for.
+pub(crate) fn too_long(letter: u8, payload: &[u8]) -> bool
+    ensures { λ r. ⌜ r ≡ tooLong letter (now (payload .entry)) ⌝ }
+{
+    let n = payload.len();
+    let replays = ((letter == b'R') | (letter == b'G')) & (29 <= n);
+    let saves = (letter == b'S') & (n == 29);
+    (replays | saves) & (65536 < parts::word_at(payload, 25))
+}
+
+pub(crate) fn put_line(out: &mut [u8], letter: u8, payload: &[u8]) -> usize
+    ensures { λ r. ⌜ Wrote (page (now (out .entry)) 0) (lineOf letter (now (payload .entry))) (page (now (out .exit)) r) ⌝ }
+{
+    match letter {
+        b'C' => cycle::put_cycle(out, payload),
+        b'D' => cycle::put_gate_cycle(out, payload),
+        b'R' => replay::put_replay(out, payload),
+        b'G' => replay::put_gate_replay(out, payload),
+        b'S' => state::put_save(out, payload),
+        b'T' => state::put_take_up(out, payload),
+        b'E' => evaluate::put_evaluate(out, payload),
+        _ => text::put_text(out, 0, b"unknown\n"),
+    }
+}

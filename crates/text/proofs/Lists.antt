@@ -1,0 +1,31 @@
+-- The start of a list. Assumes nothing.
+use mathlib.Core.Bool.{Bool, true, false}
+use mathlib.Core.Path.{_≡_, refl, sym, ap, _∙_}
+use mathlib.Core.List.{List, _∷_}
+use Prim.Native.Nat.{ℕ, zero, suc, _≤_, min}
+use native.Mathlib.Omega.{arith}
+use lib.Dec.{ltb}
+use lib.ListN.{length, take, replicate, length-replicate}
+use lib.Seq.{take-all, take-length}
+use borrow.Author.Tests.{ltb-true, ltb-false}
+
+pub take-replicate : (a n m : ℕ) → n ≤ m → take n (replicate m a) ≡ replicate n a
+take-replicate a zero m h = refl
+take-replicate a (suc n) zero h = absurd (omega (arith, h))
+take-replicate a (suc n) (suc m) h = ap (λ (l : List ℕ). a ∷ l) (take-replicate a n m (omega (arith, h)))
+
+-- a list that is the same byte throughout, and a part of it
+pub part-length : (a n m : ℕ) {l : List ℕ} → l ≡ replicate m a → n ≤ m → n ≡ length (take n l)
+part-length a n m e h = sym (ap (λ (x : List ℕ). length (take n x)) e ∙ ap length (take-replicate a n m h) ∙ length-replicate n a)
+
+module _ (n : ℕ) (l : List ℕ) where
+  by-size : (b : Bool) → ltb (length l) n ≡ b → take (min n (length l)) l ≡ take n l
+  by-size true e =
+      let long : length l ≤ n = omega (arith, ltb-true (length l) n e) in
+      let all : min n (length l) ≡ length l = omega (arith, long) in ap (λ (k : ℕ). take k l) all ∙ take-length l ∙ sym (take-all n l long)
+  by-size false e =
+      let some : min n (length l) ≡ n = omega (arith, ltb-false (length l) n e) in ap (λ (k : ℕ). take k l) some
+
+  -- no list has more than all its elements
+  pub take-min : take (min n (length l)) l ≡ take n l
+  take-min = by-size (ltb (length l) n) refl
