@@ -29,13 +29,17 @@ fn put_outcome(out: &mut [u8], place: usize, o: Outcome) -> usize
 fn put_outcomes(out: &mut [u8], place: usize, os: Outcomes) -> usize
     ensures { λ r. ⌜ Wrote (page (now (out .entry)) place) (outcomesText os) (page (now (out .exit)) r) ⌝ }
 {
-    let a = put_outcome(&mut *out, place, os.output0);
+    let output0 = os.output0;
+    let output1 = os.output1;
+    let output2 = os.output2;
+    let output3 = os.output3;
+    let a = put_outcome(&mut *out, place, output0);
     let b = text::put_byte(&mut *out, a, b',');
-    let c = put_outcome(&mut *out, b, os.output1);
+    let c = put_outcome(&mut *out, b, output1);
     let d = text::put_byte(&mut *out, c, b',');
-    let e = put_outcome(&mut *out, d, os.output2);
+    let e = put_outcome(&mut *out, d, output2);
     let f = text::put_byte(&mut *out, e, b',');
-    put_outcome(out, f, os.output3)
+    put_outcome(out, f, output3)
 }
 
 fn put_report(out: &mut [u8], place: usize, report: Report) -> usize
@@ -67,9 +71,10 @@ fn put_plain(out: &mut [u8], t: Cycled) -> usize
     let rows = fabric::rows_of(first, second, switched, heads);
     let acks = t.acks;
     let shown = t.shown;
+    let report = t.report;
     let a = put_cycled(&mut *out, t.number, t.state, rows, records::answer_bytes(acks, shown));
     let b = text::put_byte(&mut *out, a, b' ');
-    let c = put_report(&mut *out, b, t.report);
+    let c = put_report(&mut *out, b, report);
     text::put_byte(out, c, b'\n')
 }
 

@@ -24,8 +24,8 @@ pub(crate) fn put_line(out: &mut [u8], letter: u8, payload: &[u8]) -> usize
     match letter {
         b'C' => cycle::put_cycle(out, payload),
         b'D' => cycle::put_gate_cycle(out, payload),
-        b'R' => replay::put_replay(out, payload),
-        b'G' => replay::put_gate_replay(out, payload),
+        b'R' => replay::put_replay(out, payload, false),
+        b'G' => replay::put_replay(out, payload, true),
         b'S' => state::put_save(out, payload),
         b'T' => state::put_take_up(out, payload),
         b'E' => evaluate::put_evaluate(out, payload),

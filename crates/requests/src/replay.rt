@@ -57,7 +57,8 @@ pub(crate) fn room_in(payload: &[u8]) -> usize
     text::shorter(asked, 65536)
 }
 
-pub(crate) fn put_replay(out: &mut [u8], payload: &[u8]) -> usize
+// The two engines promise the same, so that one definition serves both letters.
+pub(crate) fn put_replay(out: &mut [u8], payload: &[u8], by_gates: bool) -> usize
     ensures { λ r. ⌜ Wrote (page (now (out .entry)) 0) (replayLine (now (payload .entry))) (page (now (out .exit)) r) ⌝ }
 {
     if payload.len() < 29 {
@@ -65,16 +66,8 @@ pub(crate) fn put_replay(out: &mut [u8], payload: &[u8]) -> usize
     }
     let room = room_in(payload);
     let mut space = marks();
+    if by_gates {
+        return put_gate_replay_into(out, payload, &mut space[..room]);
+    }
     put_replay_into(out, payload, &mut space[..room])
-}
-
-pub(crate) fn put_gate_replay(out: &mut [u8], payload: &[u8]) -> usize
-    ensures { λ r. ⌜ Wrote (page (now (out .entry)) 0) (replayLine (now (payload .entry))) (page (now (out .exit)) r) ⌝ }
-{
-    if payload.len() < 29 {
-        return parts::put_malformed(out);
-    }
-    let room = room_in(payload);
-    let mut space = marks();
-    put_gate_replay_into(out, payload, &mut space[..room])
 }

@@ -2,10 +2,10 @@
 use mathlib.Core.Bool.{Bool, true, false}
 use mathlib.Core.Path.{_≡_, refl, sym, ap, _∙_}
 use mathlib.Core.List.{List, _∷_}
-use Prim.Native.Nat.{ℕ, zero, suc, _≤_, min}
+use Prim.Native.Nat.{ℕ, zero, suc, _-_, _≤_, min}
 use native.Mathlib.Omega.{arith}
 use lib.Dec.{ltb}
-use lib.ListN.{length, take, replicate, length-replicate}
+use lib.ListN.{length, take, drop, replicate, length-drop, length-replicate}
 use lib.Seq.{take-all, take-length}
 use borrow.Author.Tests.{ltb-true, ltb-false}
 
@@ -17,6 +17,10 @@ take-replicate a (suc n) (suc m) h = ap (λ (l : List ℕ). a ∷ l) (take-repli
 -- a list that is the same byte throughout, and a part of it
 pub part-length : (a n m : ℕ) {l : List ℕ} → l ≡ replicate m a → n ≤ m → n ≡ length (take n l)
 part-length a n m e h = sym (ap (λ (x : List ℕ). length (take n x)) e ∙ ap length (take-replicate a n m h) ∙ length-replicate n a)
+
+-- a part from a place to the end
+pub part-all : (a : ℕ) (l : List ℕ) → take (length l - a) (drop a l) ≡ drop a l
+part-all a l = take-all (length l - a) (drop a l) (omega (arith, length-drop a l))
 
 module _ (n : ℕ) (l : List ℕ) where
   by-size : (b : Bool) → ltb (length l) n ≡ b → take (min n (length l)) l ≡ take n l

@@ -1,73 +1,37 @@
+use mathlib.Core.Path.{_≡_, refl, sym, ap, _∙_}
+use mathlib.Core.List.{List}
+use Prim.Native.Nat.{ℕ, _-_, _≤_}
+use native.Mathlib.Omega.{arith}
+use lib.ListN.{length, take, length-set}
+use borrow.Author.Needs.{needs}
+use Rattle.requests.specs.Evaluate.{gateWords}
+use Rattle.requests.proofs.Words.{next-word}
 use Rattle.requests.proofs.evaluate.words_from.Statement.{statement}
 use Rattle.requests.proofs.evaluate.words_from.Tie as tie
-use Rattle.requests.proofs.evaluate.words_from.Reads as reads
-use Rattle.requests.proofs.evaluate.words_from.Lts as lts
-use Rattle.requests.proofs.parts.word_at.Reads as word-at-reads
 
 abbrev Inv-loop : tie.InvT-loop
-Inv-loop payload n words₀ i₀ words i = ?
+Inv-loop payload n words₀ i₀ words i = (take i words ≡ gateWords payload i) × (128 ≡ length words) × (i ≤ n)
 
 abbrev μ-loop : tie.MeasureT-loop
-μ-loop payload n words₀ i₀ words i = ?
+μ-loop payload n words₀ i₀ words i = n - i
 
--- src/evaluate.rt:25:5
 loop-holds : tie.Need-loop-holds Inv-loop μ-loop
-loop-holds c = ?
+unfolding gateWords
+loop-holds c = (refl, refl, omega arith)
 
--- src/evaluate.rt:26:49
-mul-word-at : tie.Need-mul-word-at Inv-loop μ-loop
-mul-word-at c = ?
-
--- src/evaluate.rt:26:44
-add-word-at : tie.Need-add-word-at Inv-loop μ-loop
-add-word-at c = ?
-
--- src/evaluate.rt:26:20
-word-at-requires : tie.Need-word-at-requires Inv-loop μ-loop
-word-at-requires c κs = ?
-
--- src/evaluate.rt:26:20
-cast-words : tie.Need-cast-words Inv-loop μ-loop
-cast-words c = ?
-
--- src/evaluate.rt:26:9
-mul-words : tie.Need-mul-words Inv-loop μ-loop
-mul-words c = ?
-
--- src/evaluate.rt:26:9
-array-write-words : tie.Need-array-write-words Inv-loop μ-loop
-array-write-words c = ?
-
--- src/evaluate.rt:27:9
-add-i : tie.Need-add-i Inv-loop μ-loop
-add-i c = ?
-
--- src/evaluate.rt:25:5
-loop-less : tie.Need-loop-less Inv-loop μ-loop
-loop-less c = ?
-
--- src/evaluate.rt:25:5
 loop-again : tie.Need-loop-again Inv-loop μ-loop
-loop-again c = ?
+loop-again c =
+    let l = c .before .before .loop in
+    let more = c .before .loop-test .taken in
+    (next-word (c .before .before .before .before .args .payload .now) (l .words) (l .i) (l .inv .0) (c .word-at .ensures .0) (omega (arith, more, c .before .before .before .before .pre, l .inv .1)), l .inv .1 ∙ sym (length-set (l .words) (l .i) _), omega (arith, more))
 
--- src/evaluate.rt:19:1
 returns : tie.Need-returns Inv-loop μ-loop
-returns c = ?
+returns c =
+    let l = c .before .loop in
+    let all : l .i ≡ c .before .before .before .args .n = omega (arith, l .inv .2, c .loop-test .left) in
+    ap (λ (j : ℕ). take j (l .words)) (sym all) ∙ l .inv .0 ∙ ap (gateWords (c .before .before .before .args .payload .now)) all
 
 pub words-from-spec : {M : Type 1} → statement M
-words-from-spec =
-    tie.close
-    (tie.spec
-    Inv-loop
-    μ-loop
-    loop-holds
-    mul-word-at
-    add-word-at
-    word-at-requires
-    cast-words
-    mul-words
-    array-write-words
-    add-i
-    loop-less
-    loop-again
-    returns)
+words-from-spec = tie.close (tie.spec Inv-loop μ-loop loop-holds (λ c. omega (arith, c .loop-test .taken, c .before .before .before .pre)) (λ c. omega (arith, c .loop-test .taken, c .before .before .before .pre)) (λ c κs. omega (arith, c .loop-test .taken, c .before .before .before .pre))
+    (λ c. search needs) (λ c. omega (arith, c .before .loop-test .taken, c .before .before .before .before .pre)) (λ c. omega (arith, c .before .loop-test .taken, c .before .before .before .before .pre)) (λ c. omega (arith, c .before .loop-test .taken, c .before .before .before .before .pre))
+    (λ c. omega (arith, c .before .loop-test .taken)) loop-again returns)

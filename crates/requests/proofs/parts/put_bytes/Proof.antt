@@ -1,36 +1,14 @@
 use borrow.Author.Needs.{needs}
+use borrow.Author.Tests.{eq-eqb, ne-eqb}
+use Rattle.text.proofs.Pages.{spelt}
 use Rattle.requests.proofs.parts.put_bytes.Statement.{statement}
 use Rattle.requests.proofs.parts.put_bytes.Tie as tie
-use Rattle.requests.proofs.parts.put_bytes.Reads as reads
-use Rattle.requests.proofs.parts.put_bytes.Lts as lts
-use Rattle.text.proofs.put_hex.Reads as put-hex-reads
-use Rattle.text.proofs.put_byte.Reads as put-byte-reads
 
--- src/parts.rt:59:9
-put-byte-requires : tie.Need-put-byte-requires
-put-byte-requires c κs = search needs
-
--- src/parts.rt:61:9
-put-hex-requires : tie.Need-put-hex-requires
-put-hex-requires c κs = search needs
-
--- src/parts.rt:55:1
-same-length : tie.Need-same-length
-same-length c = search needs
-
--- src/parts.rt:55:1
 returns : tie.Need-returns
-returns c = ?
+returns c = spelt (c .before .before .put-byte .ensures) rw (eq-eqb _ _ (c .before .before .before .before .if1 .taken))
 
--- src/parts.rt:55:1
-same-length-2 : tie.Need-same-length-2
-same-length-2 c = search needs
-
--- src/parts.rt:55:1
 returns-2 : tie.Need-returns-2
-returns-2 c = ?
+returns-2 c = spelt (c .before .before .put-hex .ensures) rw (ne-eqb _ _ (c .before .before .before .before .if1 .left))
 
 pub put-bytes-spec : {M : Type 1} → statement M
-put-bytes-spec =
-    tie.close
-    (tie.spec put-byte-requires put-hex-requires same-length returns same-length-2 returns-2)
+put-bytes-spec = tie.close (tie.spec (λ c κs. search needs) (λ c κs. search needs) (λ c. search needs) returns (λ c. search needs) returns-2)

@@ -1,32 +1,12 @@
+use mathlib.Core.Path.{ap}
 use borrow.Author.Needs.{needs}
+use Rattle.text.specs.Digits.{hexes}
+use Rattle.text.proofs.Pages.{spelt}
 use Rattle.requests.proofs.parts.put_state.Statement.{statement}
 use Rattle.requests.proofs.parts.put_state.Tie as tie
-use Rattle.requests.proofs.parts.put_state.Reads as reads
-use Rattle.requests.proofs.parts.put_state.Lts as lts
-use Rattle.image.proofs.image_of.Reads as image-of-reads
-use Rattle.text.proofs.put_hex.Reads as put-hex-reads
 
--- src/parts.rt:50:17
-image-of-requires : tie.Need-image-of-requires
-image-of-requires c κs = search needs
-
--- src/parts.rt:51:31
-slice-aggregate-put-hex : tie.Need-slice-aggregate-put-hex
-slice-aggregate-put-hex c = search needs
-
--- src/parts.rt:51:5
-put-hex-requires : tie.Need-put-hex-requires
-put-hex-requires c κs = search needs
-
--- src/parts.rt:47:1
-same-length : tie.Need-same-length
-same-length c = search needs
-
--- src/parts.rt:47:1
 returns : tie.Need-returns
-returns c = ?
+returns c = spelt (c .before .before .put-hex .ensures) (ap hexes (c .before .before .before .before .before .image-of .ensures))
 
 pub put-state-spec : {M : Type 1} → statement M
-put-state-spec =
-    tie.close
-    (tie.spec image-of-requires slice-aggregate-put-hex put-hex-requires same-length returns)
+put-state-spec = tie.close (tie.spec (λ c κs. search needs) (λ c. search needs) (λ c κs. search needs) (λ c. search needs) returns)

@@ -1,26 +1,12 @@
+use mathlib.Core.Path.{ap}
 use borrow.Author.Needs.{needs}
+use Rattle.text.proofs.Pages.{spelt}
+use Rattle.requests.specs.State.{takenUpText}
 use Rattle.requests.proofs.state.put_take_up.Statement.{statement}
 use Rattle.requests.proofs.state.put_take_up.Tie as tie
-use Rattle.requests.proofs.state.put_take_up.Reads as reads
-use Rattle.requests.proofs.state.put_take_up.Lts as lts
-use Rattle.requests.proofs.state.put_taken_up.Reads as put-taken-up-reads
-use Rattle.saved.proofs.take_up.Reads as take-up-reads
 
--- src/state.rt:44:23
-take-up-requires : tie.Need-take-up-requires
-take-up-requires c κs = search needs
-
--- src/state.rt:44:5
-put-taken-up-requires : tie.Need-put-taken-up-requires
-put-taken-up-requires c κs = search needs
-
--- src/state.rt:41:1
-same-length : tie.Need-same-length
-same-length c = search needs
-
--- src/state.rt:41:1
 returns : tie.Need-returns
-returns c = ?
+returns c = spelt (c .before .before .put-taken-up .ensures) (ap takenUpText (c .before .before .before .take-up .ensures))
 
 pub put-take-up-spec : {M : Type 1} → statement M
-put-take-up-spec = tie.close (tie.spec take-up-requires put-taken-up-requires same-length returns)
+put-take-up-spec = tie.close (tie.spec (λ c κs. search needs) (λ c κs. search needs) (λ c. search needs) returns)
