@@ -11,7 +11,7 @@ use Rattle.text.proofs.Differences.{itself}
 use Rattle.capture.specs.declared.run.Replayed.{Replayed}
 use Rattle.capture.specs.Capture.{records}
 use Rattle.image.specs.Image.{imageOf}
-use Rattle.comparison.specs.Agreement.{ending, isSame, sameEnd, byRecord, disagreementOf}
+use Rattle.comparison.specs.Agreement.{ending, sameEnd, byRecord, disagreementOf}
 
 module _ (p g : Replayed) (plain gates : List ℕ) {d : Difference} (is : d ≡ firstDifference plain gates) where
   pub bytes-differ : {k : ℕ} → d ≡ At k → At (k / 5) ≡ disagreementOf p g plain gates

@@ -11,7 +11,6 @@ use borrow.Author.Tests.{ltb-true, ltb-false, eqb-true, eqb-false}
 use Rattle.routing.proofs.Equal.{two}
 use Rattle.fabric.specs.State.{resetState, stateRefusal}
 use Rattle.capture.specs.declared.refusal.Judged.{Judged}
-use Rattle.capture.specs.declared.refusal.Judged.the-variants.{Refused}
 use Rattle.capture.specs.Capture.{records}
 use Rattle.capture.specs.Refusal.{limit, judged}
 use Rattle.capture.specs.Replay.{replayedAs, writtenAs}

@@ -1,8 +1,8 @@
 -- A replay asked for by a payload, by either engine. Assumes nothing.
-use mathlib.Core.Path.{_≡_, sym, ap, _∙_}
+use mathlib.Core.Path.{_≡_, ap, _∙_}
 use mathlib.Core.List.{List}
 use Prim.Native.Nat.{ℕ, _-_, _≤_}
-use lib.ListN.{length, take, drop, replicate}
+use lib.ListN.{length, take, drop}
 use Rattle.text.specs.Page.{Page, Wrote}
 use Rattle.text.proofs.Lists.{take-replicate, part-all}
 use Rattle.text.proofs.Pages.{spelt}
@@ -11,7 +11,7 @@ use Rattle.fabric.specs.declared.state.State.{State}
 use Rattle.fabric.specs.Cycle.{Machine, machine}
 use Rattle.capture.specs.declared.run.Replayed.{Replayed}
 use Rattle.capture.specs.Replay.{replayOf, replayWrites}
-use Rattle.image.specs.Image.{stateFrom, rowsFrom, machineFrom}
+use Rattle.image.specs.Image.{stateFrom, rowsFrom}
 use Rattle.requests.specs.Replay.{roomIn, marked, replayedText, replayText}
 
 -- the capture is lent as the part of the payload behind the state and the length

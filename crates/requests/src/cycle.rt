@@ -72,7 +72,13 @@ fn put_plain(out: &mut [u8], t: Cycled) -> usize
     let acks = t.acks;
     let shown = t.shown;
     let report = t.report;
-    let a = put_cycled(&mut *out, t.number, t.state, rows, records::answer_bytes(acks, shown));
+    let a = put_cycled(
+        &mut *out,
+        t.number,
+        t.state,
+        rows,
+        records::answer_bytes(acks, shown),
+    );
     let b = text::put_byte(&mut *out, a, b' ');
     let c = put_report(&mut *out, b, report);
     text::put_byte(out, c, b'\n')
@@ -88,7 +94,13 @@ fn put_gates(out: &mut [u8], t: GateCycled) -> usize
     let rows = fabric::rows_of(first, second, switched, heads);
     let acks = t.acks;
     let shown = t.shown;
-    let a = put_cycled(&mut *out, t.number, t.state, rows, records::answer_bytes(acks, shown));
+    let a = put_cycled(
+        &mut *out,
+        t.number,
+        t.state,
+        rows,
+        records::answer_bytes(acks, shown),
+    );
     text::put_byte(out, a, b'\n')
 }
 
@@ -100,7 +112,14 @@ pub(crate) fn put_cycle(out: &mut [u8], payload: &[u8]) -> usize
         return parts::put_malformed(out);
     }
     let inputs = records::inputs_from(capture::record_at(payload, 5));
-    put_plain(out, fabric::single_cycle(image::state_from(payload), image::rows_from(payload), inputs))
+    put_plain(
+        out,
+        fabric::single_cycle(
+            image::state_from(payload),
+            image::rows_from(payload),
+            inputs,
+        ),
+    )
 }
 
 pub(crate) fn put_gate_cycle(out: &mut [u8], payload: &[u8]) -> usize
@@ -110,5 +129,12 @@ pub(crate) fn put_gate_cycle(out: &mut [u8], payload: &[u8]) -> usize
         return parts::put_malformed(out);
     }
     let inputs = records::inputs_from(capture::record_at(payload, 5));
-    put_gates(out, engine::single_cycle(image::state_from(payload), image::rows_from(payload), inputs))
+    put_gates(
+        out,
+        engine::single_cycle(
+            image::state_from(payload),
+            image::rows_from(payload),
+            inputs,
+        ),
+    )
 }

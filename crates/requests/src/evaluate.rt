@@ -1,8 +1,7 @@
 // E: the evaluator.
-ghost use mathlib.Core.Bool.{Bool};
 ghost use mathlib.Core.Path.{_≡_};
 ghost use Prim.Native.Nat.{_≤_};
-ghost use lib.ListN.{take};
+ghost use lib.ListN.{length, take};
 ghost use Rattle.text.specs.Page.{page, Wrote};
 ghost use Rattle.requests.specs.Evaluate.{fitting, gateWords, valueBytes, evaluatedText, evaluateLine};
 use super::parts;
@@ -18,7 +17,7 @@ fn fits(payload: &[u8]) -> bool
 
 fn words_from(payload: &[u8], n: usize) -> [u32; 128]
     requires { ⌜ n ≤ 128 ⌝ }
-    ensures { λ r. ⌜ take n r ≡ gateWords (now (payload .entry)) n ⌝ }
+    ensures { λ r. ⌜ (take n r ≡ gateWords (now (payload .entry)) n) × (128 ≡ length r) ⌝ }
 {
     let mut words = [0u32; 128];
     let mut i: usize = 0;

@@ -1,7 +1,7 @@
 // R and G: the replay, by the rules and by the gates. The answer buffer holds A5 throughout before the call.
 ghost use mathlib.Core.Path.{_≡_};
 ghost use Prim.Native.Nat.{_≤_};
-ghost use lib.ListN.{length, replicate};
+ghost use lib.ListN.{length};
 ghost use Rattle.text.specs.Page.{page, Wrote};
 ghost use Rattle.requests.specs.Replay.{roomIn, marked, replayedText, replayText, replayLine};
 use super::parts;

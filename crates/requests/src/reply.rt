@@ -29,10 +29,7 @@ fn put_last(out: &mut [u8], text: &[u8]) -> Reply
     ensures { λ r. ⌜ (r .last ≡ true) × Wrote (page (now (out .entry)) 0) (now (text .entry)) (page (now (out .exit)) (r .length)) ⌝ }
 {
     let length = text::put_text(out, 0, text);
-    Reply {
-        length,
-        last: true,
-    }
+    Reply { length, last: true }
 }
 
 // `header` and `payload` are what could be read of the two.

@@ -8,7 +8,11 @@ use saved::TakenUp;
 fn put_save_into(out: &mut [u8], payload: &[u8], buffer: &mut [u8]) -> usize
     ensures { λ r. ⌜ Wrote (page (now (out .entry)) 0) (saveText (now (payload .entry)) (now (buffer .entry))) (page (now (out .exit)) r) ⌝ }
 {
-    let number = saved::save(image::state_from(payload), image::rows_from(payload), &mut *buffer);
+    let number = saved::save(
+        image::state_from(payload),
+        image::rows_from(payload),
+        &mut *buffer,
+    );
     let a = parts::put_number(&mut *out, 0, number as u64);
     let b = parts::put_bytes(&mut *out, a, buffer);
     text::put_byte(out, b, b'\n')

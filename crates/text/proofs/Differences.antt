@@ -1,17 +1,17 @@
 -- The first difference of two texts, place by place, and what it says of them. Assumes nothing.
-use mathlib.Core.Path.{_≡_, refl, sym, ap, _∙_}
+use mathlib.Core.Path.{_≡_, refl}
 use mathlib.Core.Bool.{Bool, true, false}
 use mathlib.Core.List.{List, [], _∷_}
 use Prim.Native.Nat.{ℕ, suc, _+_, _<_, _≤_, min}
 use native.Mathlib.Omega.{arith}
 use native.Mathlib.Numerals.{add-one}
-use lib.Dec.{eqb, ltb}
+use lib.Dec.{ltb}
 use lib.ListN.{length, getD, drop, drop-of-length-le}
 use lib.Seq.{drop-cons}
 use borrow.Author.Tests.{ltb-true, ltb-false, eq-eqb, ne-eqb}
 use Rattle.text.specs.declared.difference.Difference.{Difference}
 use Rattle.text.specs.declared.difference.Difference.the-variants.{Same, At}
-use Rattle.text.specs.Differ.{differenceFrom, firstDifference}
+use Rattle.text.specs.Differ.{differenceFrom}
 
 module _ (a b : List ℕ) (i : ℕ) where
   -- what is left of the two texts from place i on

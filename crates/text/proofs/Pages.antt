@@ -1,7 +1,7 @@
 -- Text on a page, piece by piece: what the calls put there is one text in the end. Assumes nothing.
 use mathlib.Core.Path.{_≡_, refl, sym, ap, _∙_}
 use mathlib.Core.List.{List, [], _∷_, _++_}
-use Prim.Native.Nat.{ℕ, suc, _+_, _<_, _≤_}
+use Prim.Native.Nat.{ℕ, _+_, _<_, _≤_}
 use native.Mathlib.Numerals.{add-one}
 use lib.ListN.{length, getD, set, drop}
 use lib.Seq.{drop-cons}

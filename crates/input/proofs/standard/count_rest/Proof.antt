@@ -3,7 +3,6 @@ use mathlib.Core.Path.{_≡_, sym, _∙_}
 use Prim.Native.Nat.{_+_, _*_, _≤_}
 use native.Mathlib.Omega.{arith}
 use lib.ListN.{length}
-use borrow.Author.Needs.{needs}
 use Rattle.input.proofs.standard.count_rest.Statement.{statement}
 use Rattle.input.proofs.standard.count_rest.Tie as tie
 

@@ -1,12 +1,10 @@
-use mathlib.Core.Path.{_≡_, refl, sym, ap, _∙_}
-use mathlib.Core.List.{List}
+use mathlib.Core.Path.{_≡_, refl, ap, _∙_}
 use Prim.Native.Nat.{_-_}
 use native.Mathlib.Omega.{arith}
 use lib.ListN.{length}
 use borrow.Author.Needs.{needs}
 use Rattle.text.specs.Page.{page}
 use Rattle.text.proofs.Pages.{spelt, Ahead, begun, went-on, ended}
-use Rattle.capture.specs.Capture.{records}
 use Rattle.listing.specs.Listing.{line, linesFrom}
 use Rattle.listing.proofs.Turns.{all-lines, next-line, no-line}
 use Rattle.listing.proofs.lines.put_lines.Statement.{statement}

@@ -1,6 +1,5 @@
 use borrow.Author.Needs.{needs}
-use mathlib.Core.Bool.{Bool, true, false}
-use mathlib.Core.Path.{_≡_, sym, _∙_}
+use mathlib.Core.Path.{sym, _∙_}
 use Rattle.text.proofs.Pages.{_then_, nothing, spelt}
 use Rattle.listing.proofs.refusal.put_index.Statement.{statement}
 use Rattle.listing.proofs.refusal.put_index.Tie as tie

@@ -1,5 +1,4 @@
 use mathlib.Core.Path.{_≡_, refl, sym, ap, _∙_}
-use mathlib.Core.List.{List}
 use Prim.Native.Nat.{ℕ, _-_, _≤_}
 use native.Mathlib.Omega.{arith}
 use lib.ListN.{length, take, length-set}
@@ -29,7 +28,7 @@ returns : tie.Need-returns Inv-loop μ-loop
 returns c =
     let l = c .before .loop in
     let all : l .i ≡ c .before .before .before .args .n = omega (arith, l .inv .2, c .loop-test .left) in
-    ap (λ (j : ℕ). take j (l .words)) (sym all) ∙ l .inv .0 ∙ ap (gateWords (c .before .before .before .args .payload .now)) all
+    (ap (λ (j : ℕ). take j (l .words)) (sym all) ∙ l .inv .0 ∙ ap (gateWords (c .before .before .before .args .payload .now)) all, l .inv .1)
 
 pub words-from-spec : {M : Type 1} → statement M
 words-from-spec = tie.close (tie.spec Inv-loop μ-loop loop-holds (λ c. omega (arith, c .loop-test .taken, c .before .before .before .pre)) (λ c. omega (arith, c .loop-test .taken, c .before .before .before .pre)) (λ c κs. omega (arith, c .loop-test .taken, c .before .before .before .pre))

@@ -1,144 +1,43 @@
+use mathlib.Core.Path.{refl, sym, _∙_}
 use borrow.Author.Needs.{needs}
+use Rattle.records.specs.Record.{byteAt}
+use Rattle.requests.proofs.Replies.{replied, no-header, header-cut, too-much, payload-cut, all-read, buffer-too-long, line-given}
 use Rattle.requests.proofs.reply.put_reply.Statement.{statement}
 use Rattle.requests.proofs.reply.put_reply.Tie as tie
-use Rattle.requests.proofs.reply.put_reply.Reads as reads
-use Rattle.requests.proofs.reply.put_reply.Lts as lts
-use Rattle.requests.proofs.letter.put_line.Reads as put-line-reads
-use Rattle.requests.proofs.letter.too_long.Reads as too-long-reads
-use Rattle.requests.proofs.parts.word_at.Reads as word-at-reads
-use Rattle.requests.proofs.reply.put_last.Reads as put-last-reads
 
--- src/reply.rt:44:30
-slice-aggregate-put-last : tie.Need-slice-aggregate-put-last
-slice-aggregate-put-last c = search needs
-
--- src/reply.rt:44:9
-put-last-requires : tie.Need-put-last-requires
-put-last-requires c κs = search needs
-
--- src/reply.rt:44:9
-same-length : tie.Need-same-length
-same-length c = search needs
-
--- src/reply.rt:44:9
 returns : tie.Need-returns
-returns c = ?
+returns c =
+    let a = c .before .before .before .before .before .before .before .before .before .args in replied (a .header .now) (a .payload .now) (no-header _ _ (c .before .before .before .before .before .if1 .taken)) (c .before .before .put-last .ensures)
 
--- src/reply.rt:47:30
-slice-aggregate-put-last-2 : tie.Need-slice-aggregate-put-last-2
-slice-aggregate-put-last-2 c = search needs
-
--- src/reply.rt:47:9
-put-last-requires-2 : tie.Need-put-last-requires-2
-put-last-requires-2 c κs = search needs
-
--- src/reply.rt:47:9
-same-length-2 : tie.Need-same-length-2
-same-length-2 c = search needs
-
--- src/reply.rt:47:9
 returns-2 : tie.Need-returns-2
-returns-2 c = ?
+returns-2 c =
+    let a = c .before .before .before .before .before .before .before .before .before .before .args in replied (a .header .now) (a .payload .now) (header-cut _ _ (c .before .before .before .before .before .before .if1 .left) (c .before .before .before .before .before .if2 .taken)) (c .before .before .put-last2 .ensures)
 
--- src/reply.rt:49:9
-word-at-requires : tie.Need-word-at-requires
-word-at-requires c κs = search needs
-
--- src/reply.rt:51:30
-slice-aggregate-put-last-3 : tie.Need-slice-aggregate-put-last-3
-slice-aggregate-put-last-3 c = search needs
-
--- src/reply.rt:51:9
-put-last-requires-3 : tie.Need-put-last-requires-3
-put-last-requires-3 c κs = search needs
-
--- src/reply.rt:51:9
-same-length-3 : tie.Need-same-length-3
-same-length-3 c = search needs
-
--- src/reply.rt:51:9
 returns-3 : tie.Need-returns-3
-returns-3 c = ?
+returns-3 c =
+    let a = c .before .before .before .before .before .before .before .before .before .before .before .before .args in
+    replied (a .header .now) (a .payload .now) (too-much _ _ (c .before .before .before .before .before .before .before .before .if1 .left) (c .before .before .before .before .before .before .before .if2 .left) (c .before .before .before .before .before .before .word-at .ensures .0) (c .before .before .before .before .before .if3 .taken)) (c .before .before .put-last3 .ensures)
 
--- src/reply.rt:54:30
-slice-aggregate-put-last-4 : tie.Need-slice-aggregate-put-last-4
-slice-aggregate-put-last-4 c = search needs
-
--- src/reply.rt:54:9
-put-last-requires-4 : tie.Need-put-last-requires-4
-put-last-requires-4 c κs = search needs
-
--- src/reply.rt:54:9
-same-length-4 : tie.Need-same-length-4
-same-length-4 c = search needs
-
--- src/reply.rt:54:9
 returns-4 : tie.Need-returns-4
-returns-4 c = ?
+returns-4 c =
+    let a = c .before .before .before .before .before .before .before .before .before .before .before .before .before .args in
+    replied (a .header .now) (a .payload .now) (payload-cut _ _ (c .before .before .before .before .before .before .before .before .before .if1 .left) (c .before .before .before .before .before .before .before .before .if2 .left) (c .before .before .before .before .before .before .before .word-at .ensures .0) (c .before .before .before .before .before .before .if3 .left) (c .before .before .before .before .before .if4 .taken)) (c .before .before .put-last4 .ensures)
 
--- src/reply.rt:56:18
-shared-slice-read-letter : tie.Need-shared-slice-read-letter
-shared-slice-read-letter c = search needs
-
--- src/reply.rt:57:8
-too-long-requires : tie.Need-too-long-requires
-too-long-requires c κs = search needs
-
--- src/reply.rt:58:30
-slice-aggregate-put-last-5 : tie.Need-slice-aggregate-put-last-5
-slice-aggregate-put-last-5 c = search needs
-
--- src/reply.rt:58:9
-put-last-requires-5 : tie.Need-put-last-requires-5
-put-last-requires-5 c κs = search needs
-
--- src/reply.rt:58:9
-same-length-5 : tie.Need-same-length-5
-same-length-5 c = search needs
-
--- src/reply.rt:58:9
 returns-5 : tie.Need-returns-5
-returns-5 c = ?
+returns-5 c =
+    let a = c .before .before .before .before .before .before .before .before .before .before .before .before .before .before .before .before .args in
+    let read = all-read (a .header .now) (a .payload .now) (c .before .before .before .before .before .before .before .before .before .before .before .before .if1 .left) (c .before .before .before .before .before .before .before .before .before .before .before .if2 .left) (c .before .before .before .before .before .before .before .before .before .before .word-at .ensures .0) (c .before .before .before .before .before .before .before .before .before .if3 .left) (c .before .before .before .before .before .before .before .before .if4 .left) in
+    replied (a .header .now) (a .payload .now) (buffer-too-long (byteAt (a .header .now) 0) (a .payload .now) (sym (c .before .before .before .before .before .before .too-long .ensures) ∙ c .before .before .before .before .before .if5 .taken) ∙ read) (c .before .before .put-last5 .ensures)
 
--- src/reply.rt:60:9
-put-line-requires : tie.Need-put-line-requires
-put-line-requires c κs = search needs
-
--- src/reply.rt:39:1
-same-length-6 : tie.Need-same-length-6
-same-length-6 c = search needs
-
--- src/reply.rt:39:1
 returns-6 : tie.Need-returns-6
-returns-6 c = ?
+returns-6 c =
+    let a = c .before .before .before .before .before .before .before .before .before .before .before .before .before .before .before .args in
+    let read = all-read (a .header .now) (a .payload .now) (c .before .before .before .before .before .before .before .before .before .before .before .if1 .left) (c .before .before .before .before .before .before .before .before .before .before .if2 .left) (c .before .before .before .before .before .before .before .before .before .word-at .ensures .0) (c .before .before .before .before .before .before .before .before .if3 .left) (c .before .before .before .before .before .before .before .if4 .left) in
+    replied (a .header .now) (a .payload .now) (line-given (byteAt (a .header .now) 0) (a .payload .now) (sym (c .before .before .before .before .before .too-long .ensures) ∙ c .before .before .before .before .if5 .left) ∙ read) (refl, c .before .before .put-line .ensures)
 
 pub put-reply-spec : {M : Type 1} → statement M
-put-reply-spec =
-    tie.close
-    (tie.spec
-    slice-aggregate-put-last
-    put-last-requires
-    same-length
-    returns
-    slice-aggregate-put-last-2
-    put-last-requires-2
-    same-length-2
-    returns-2
-    word-at-requires
-    slice-aggregate-put-last-3
-    put-last-requires-3
-    same-length-3
-    returns-3
-    slice-aggregate-put-last-4
-    put-last-requires-4
-    same-length-4
-    returns-4
-    shared-slice-read-letter
-    too-long-requires
-    slice-aggregate-put-last-5
-    put-last-requires-5
-    same-length-5
-    returns-5
-    put-line-requires
-    same-length-6
-    returns-6)
+put-reply-spec = tie.close (tie.spec (λ c. search needs) (λ c κs. search needs) (λ c. search needs) returns
+    (λ c. search needs) (λ c κs. search needs) (λ c. search needs) returns-2 (λ c κs. search needs)
+    (λ c. search needs) (λ c κs. search needs) (λ c. search needs) returns-3
+    (λ c. search needs) (λ c κs. search needs) (λ c. search needs) returns-4 (λ c. search needs) (λ c κs. search needs)
+    (λ c. search needs) (λ c κs. search needs) (λ c. search needs) returns-5 (λ c κs. search needs) (λ c. search needs) returns-6)
