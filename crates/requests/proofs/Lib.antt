@@ -1,5 +1,2 @@
-pub mod Cycles
 pub mod Letters
-pub mod Replays
 pub mod Replies
-pub mod Words

@@ -1,7 +1,2 @@
-pub mod Parts
-pub mod Cycle
-pub mod Replay
-pub mod State
-pub mod Evaluate
 pub mod Letter
 pub mod Reply

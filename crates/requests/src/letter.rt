@@ -2,11 +2,6 @@
 ghost use mathlib.Core.Path.{_≡_};
 ghost use Rattle.text.specs.Page.{page, Wrote};
 ghost use Rattle.requests.specs.Letter.{tooLong, lineOf};
-use super::cycle;
-use super::evaluate;
-use super::parts;
-use super::replay;
-use super::state;
 
 // A buffer is asked for that is longer than there is room for.
 pub(crate) fn too_long(letter: u8, payload: &[u8]) -> bool
@@ -15,20 +10,20 @@ pub(crate) fn too_long(letter: u8, payload: &[u8]) -> bool
     let n = payload.len();
     let replays = ((letter == b'R') | (letter == b'G')) & (29 <= n);
     let saves = (letter == b'S') & (n == 29);
-    (replays | saves) & (65536 < parts::word_at(payload, 25))
+    (replays | saves) & (65536 < calls::word_at(payload, 25))
 }
 
 pub(crate) fn put_line(out: &mut [u8], letter: u8, payload: &[u8]) -> usize
     ensures { λ r. ⌜ Wrote (page (now (out .entry)) 0) (lineOf letter (now (payload .entry))) (page (now (out .exit)) r) ⌝ }
 {
     match letter {
-        b'C' => cycle::put_cycle(out, payload),
-        b'D' => cycle::put_gate_cycle(out, payload),
-        b'R' => replay::put_replay(out, payload, false),
-        b'G' => replay::put_replay(out, payload, true),
-        b'S' => state::put_save(out, payload),
-        b'T' => state::put_take_up(out, payload),
-        b'E' => evaluate::put_evaluate(out, payload),
+        b'C' => calls::put_cycle(out, payload),
+        b'D' => calls::put_gate_cycle(out, payload),
+        b'R' => calls::put_replay(out, payload, false),
+        b'G' => calls::put_replay(out, payload, true),
+        b'S' => calls::put_save(out, payload),
+        b'T' => calls::put_take_up(out, payload),
+        b'E' => calls::put_evaluate(out, payload),
         _ => text::put_text(out, 0, b"unknown\n"),
     }
 }

@@ -1,0 +1,3 @@
+pub mod Cycles
+pub mod Replays
+pub mod Words

@@ -1,0 +1,5 @@
+pub mod Parts
+pub mod Cycle
+pub mod Replay
+pub mod State
+pub mod Evaluate
