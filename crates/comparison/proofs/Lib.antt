@@ -2,3 +2,4 @@ pub mod Agreements
 pub mod Verdicts
 pub mod Inputs
 pub mod Whole
+pub mod Fits

@@ -21,24 +21,24 @@ use Rattle.comparison.specs.Both.{resetMachine, zeros, keptLength, kept,
 use Rattle.comparison.proofs.Inputs.{kept-long, kept-whole}
 
 module _ (capture : List ℕ) where
-  abbrev printedAs : Judged → List ℕ
+  abbrev pub printedAs : Judged → List ℕ
   printedAs j = outcomeText (replayedAs j resetMachine capture) (writtenAs j resetMachine capture (zeros (length capture)))
 
   same-room : length (zeros (length capture)) ≡ length capture
   same-room = length-replicate (length capture) 0
 
-  printed-by : {j : Judged} → j ≡ judged resetState capture (length capture) → printed capture ≡ printedAs j
+  pub printed-by : {j : Judged} → j ≡ judged resetState capture (length capture) → printed capture ≡ printedAs j
   unfolding printed
   printed-by {j = j} is =
       let room : judged resetState capture (length capture) ≡ judged resetState capture (length (zeros (length capture))) = ap (judged resetState capture) (sym same-room) in
       two (λ (r w : Judged). outcomeText (replayedAs r resetMachine capture) (writtenAs w resetMachine capture (zeros (length capture)))) (sym is) (sym room ∙ sym is)
 
   -- 1 goes before 4, and where one of the two is given nothing but the length counts
-  bytes-left : ¬ (length capture % 5 ≡ 0) → printed capture ≡ refusalLine 1 0
+  pub bytes-left : ¬ (length capture % 5 ≡ 0) → printed capture ≡ refusalLine 1 0
   unfolding outcomeText stateRefusal
   bytes-left h = printed-by (refused-early resetState capture (length capture) (number-1 resetState capture (length capture) refl refl h) (λ z. omega (arith, z)))
 
-  too-many : length capture % 5 ≡ 0 → limit < records capture → printed capture ≡ refusalLine 4 0
+  pub too-many : length capture % 5 ≡ 0 → limit < records capture → printed capture ≡ refusalLine 4 0
   unfolding outcomeText stateRefusal
   too-many h over = printed-by (refused-early resetState capture (length capture) (number-4 resetState capture (length capture) refl refl h over) (λ z. omega (arith, z)))
 

@@ -1,11 +1,13 @@
 -- A number in decimal is its tenth in decimal and its last digit. Assumes nothing.
-use mathlib.Core.Path.{_≡_, refl}
+use mathlib.Core.Path.{_≡_, refl, ap, _∙_}
 use mathlib.Core.Bool.{Bool, true, false}
 use mathlib.Core.List.{[], _∷_, _++_}
-use Prim.Native.Nat.{ℕ, zero, suc, _/_, _%_, _<_, _≤_}
+use Prim.Native.Nat.{ℕ, zero, suc, _+_, _/_, _%_, _^_, _<_, _≤_}
+use native.Mathlib.Nat.{pow-suc}
 use native.Mathlib.Omega.{arith}
 use lib.Dec.{ltb}
-use borrow.Author.Tests.{ltb-false, lt-ltb, le-ltb}
+use lib.ListN.{length, length-append}
+use borrow.Author.Tests.{ltb-true, ltb-false, lt-ltb, le-ltb}
 use Rattle.text.specs.Digits.{digitOf, decimalIn, decimal}
 
 pub few : (n : ℕ) → n < 10 → decimal n ≡ (digitOf n ∷ [])
@@ -30,3 +32,19 @@ many n h =
     let tenth : n / 10 < n = omega (arith, h) in
     let enough : decimalIn n (n / 10) ≡ decimal (n / 10) = spare n (suc (n / 10)) (n / 10) tenth (omega arith) in
     rw (le-ltb n 10 h, enough)
+
+one-more : (b : Bool) (k n : ℕ) → ltb n 10 ≡ b → (10 ≤ n → length (decimal (n / 10)) ≤ k) → length (decimal n) ≤ suc k
+one-more true k n e h =
+    let one : length (decimal n) ≡ 1 = ap length (few n (ltb-true n 10 e)) in omega (arith, one)
+one-more false k n e h =
+    let ten : 10 ≤ n = ltb-false n 10 e in
+    let front = decimal (n / 10) in
+    let all : length (decimal n) ≡ length front + 1 = ap length (many n ten) ∙ length-append front (digitOf (n % 10) ∷ []) in
+    omega (arith, all, h ten)
+
+-- a number below a power of ten has at most so many digits
+pub few-digits : (d n : ℕ) → n < 10 ^ suc d → length (decimal n) ≤ suc d
+few-digits zero n h =
+    let less : n < 10 = h in one-more (ltb n 10) 0 n refl (λ ten. absurd (omega (arith, less, ten)))
+few-digits (suc d) n h =
+    let tenth : n / 10 < 10 ^ suc d = omega (arith, h, pow-suc 10 (suc d)) in one-more (ltb n 10) (suc d) n refl (λ ten. few-digits d (n / 10) tenth)
