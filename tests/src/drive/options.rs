@@ -1,6 +1,7 @@
 //! The command line.
 
-use std::path::{absolute, PathBuf};
+use std::env::current_dir;
+use std::path::PathBuf;
 
 pub const CAPTURES: usize = 2_400;
 pub const CALLS: usize = 24_000;
@@ -75,7 +76,8 @@ impl Options {
 
 /// Made absolute, so that a bare name is not looked for among the commands.
 fn path(word: &str) -> Result<PathBuf, String> {
-    absolute(word).map_err(|error| format!("{word}: {error}"))
+    let here = current_dir().map_err(|error| format!("{word}: {error}"))?;
+    Ok(here.join(word))
 }
 
 fn number<T: std::str::FromStr>(name: &str, word: &str) -> Result<T, String> {

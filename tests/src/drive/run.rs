@@ -56,10 +56,13 @@ impl Plan {
             let mut own = Tally::default();
             while found.lock().expect("no panic").is_none() {
                 let number = next.fetch_add(1, Ordering::Relaxed);
-                let Some(work) = works.get(number) else { break };
+                let work = match works.get(number) {
+                    Some(work) => work,
+                    None => break,
+                };
                 if let Err(difference) = self.judge(work, &mut own) {
                     let mut first = found.lock().expect("no panic");
-                    if first.as_ref().is_none_or(|(known, _)| number < *known) {
+                    if first.as_ref().map_or(true, |(known, _)| number < *known) {
                         *first = Some((number, difference));
                     }
                 }

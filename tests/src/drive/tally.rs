@@ -153,6 +153,6 @@ mod tests {
         tally.capture(3);
         assert_eq!(tally.missing().len(), all - 1);
         assert!(tally.covered(false).is_err());
-        assert!(tally.covered(true).is_ok_and(|note| note.is_some()));
+        assert!(matches!(tally.covered(true), Ok(Some(_))));
     }
 }

@@ -13,7 +13,7 @@ const TURNS_IN_BATCH: usize = 33;
 
 /// One batch more than the calls need: the last is an empty input.
 pub fn batches(calls: usize) -> usize {
-    calls.div_ceil(BATCH) + 1
+    (calls + BATCH - 1) / BATCH + 1
 }
 
 /// The batch with a number: the same for the same seed and number of calls.

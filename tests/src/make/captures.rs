@@ -93,7 +93,7 @@ fn edge(rng: &mut Rng, length: usize, first: u8, last: u8) -> Vec<u8> {
 /// Frames that fill a length in bytes.
 pub fn sized(rng: &mut Rng, length: usize) -> Vec<u8> {
     let mut tape = Tape::new(rng);
-    tape.frames(rng, length.div_ceil(RECORD));
+    tape.frames(rng, (length + RECORD - 1) / RECORD);
     tape.bytes.truncate(length);
     tape.bytes
 }

@@ -59,30 +59,29 @@ fn long_ones(rng: &mut Rng) -> Vec<Request> {
 /// Around the limit; then two reasons at a time, so that the order shows.
 fn replays(rng: &mut Rng) -> Vec<Request> {
     let cases = [
-        (FULL - RECORD, 0, false),
-        (FULL, 0, false),
-        (FULL, 1, false),
-        (FULL, -1, false),
-        (FULL, 0, true),
-        (FULL - 1, 0, false),
-        (FULL + 1, 0, false),
-        (FULL + RECORD, 0, false),
-        (FULL + RECORD, 0, true),
-        (FULL + RECORD, -1, false),
-        (FULL + RECORD + 1, -1, true),
-        (15, -1, true),
-        (14, -1, false),
-        (14, 0, true),
-        (15, 0, true),
+        (FULL - RECORD, FULL - RECORD, false),
+        (FULL, FULL, false),
+        (FULL, FULL + 1, false),
+        (FULL, FULL - 1, false),
+        (FULL, FULL, true),
+        (FULL - 1, FULL - 1, false),
+        (FULL + 1, FULL + 1, false),
+        (FULL + RECORD, FULL + RECORD, false),
+        (FULL + RECORD, FULL + RECORD, true),
+        (FULL + RECORD, FULL + RECORD - 1, false),
+        (FULL + RECORD + 1, FULL + RECORD, true),
+        (15, 14, true),
+        (14, 13, false),
+        (14, 14, true),
+        (15, 15, true),
     ];
     let mut requests = Vec::new();
     for letter in *b"RG" {
-        for (length, more, bad) in cases {
+        for (length, room, bad) in cases {
             let mut capture = sized(rng, length);
             if bad {
                 bad_bits(rng, &mut capture, length / RECORD - 1);
             }
-            let room = length.saturating_add_signed(more);
             let payload = lending(states::good_image(rng), room, &capture);
             requests.push(Request::new(letter, payload));
         }

@@ -10,7 +10,7 @@ pub fn bad_bits(rng: &mut Rng, capture: &mut [u8], record: usize) {
 
 /// Bad bits in the first, the last, or one or more other records.
 pub fn some_bad_bits(rng: &mut Rng, capture: &mut [u8]) {
-    let records = capture.len().div_ceil(RECORD);
+    let records = (capture.len() + RECORD - 1) / RECORD;
     if records == 0 {
         return;
     }

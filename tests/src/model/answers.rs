@@ -138,8 +138,9 @@ impl Model {
 }
 
 fn report_text(report: Option<Routing>) -> String {
-    let Some(routing) = report else {
-        return String::from("none");
+    let routing = match report {
+        Some(routing) => routing,
+        None => return String::from("none"),
     };
     let items = routing.map(|win| match win {
         None => String::from("-"),

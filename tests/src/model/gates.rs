@@ -112,7 +112,7 @@ impl Model {
     /// 11 or 12, or 0 for a word that may make net `own`.
     fn check_word(&self, own: usize, word: u32) -> u32 {
         let gate = Gate::from_word(word);
-        let fits = counts(gate.kind).is_some_and(|(least, most)| {
+        let fits = counts(gate.kind).map_or(false, |(least, most)| {
             let idle = gate.unused().iter().all(|&net| net == 0);
             (least..=most).contains(&gate.count) && (idle || self.has(Wrong::UnusedField))
         });
