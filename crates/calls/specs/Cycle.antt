@@ -1,5 +1,5 @@
 -- C: a state and a record; the number, the state after, the answer record, the report. D: the same by the gates, which report nothing.
-use mathlib.Core.Bool.{cond}
+use mathlib.Core.Bool.{Bool, cond}
 use mathlib.Core.List.{List, [], _∷_, _++_}
 use Prim.Native.Nat.{ℕ}
 use lib.Dec.{eqb}
@@ -12,7 +12,7 @@ use Rattle.routing.specs.declared.route.Outcomes.{Outcomes}
 use Rattle.routing.specs.declared.route.Report.{Report}
 use Rattle.routing.specs.declared.route.Report.the-variants.{NoRouting, Routing}
 use Rattle.fabric.specs.declared.cycle.Cycled.{Cycled}
-use Rattle.fabric.specs.Cycle.{Machine, machine, cycleOf}
+use Rattle.fabric.specs.Cycle.{machine, cycleOf}
 use Rattle.records.specs.Record.{answerBytes}
 use Rattle.capture.specs.Capture.{inputsIn}
 use Rattle.engine.specs.declared.cycle.GateCycled.{GateCycled}
@@ -32,24 +32,21 @@ abbrev pub reportText : Report → List ℕ
 reportText NoRouting = ascii "none"
 reportText (Routing os) = outcomesText os
 
-abbrev pub cycledText : ℕ → Machine → List ℕ → List ℕ
-cycledText number m answer = numberText number ++ stateText m ++ ascii " " ++ hexes answer
+-- number, state and answer record
+abbrev pub cycledText : GateCycled → List ℕ
+cycledText t =
+    numberText (t .number) ++ stateText (machine (t .state) (t .first ∷ t .second ∷ t .switched ∷ t .heads ∷ [])) ++ ascii " "
+    ++ hexes (answerBytes (t .acks) (t .shown))
 
 abbrev pub plainText : Cycled → List ℕ
-plainText t =
-    cycledText (t .number) (machine (t .state) (t .first ∷ t .second ∷ t .switched ∷ t .heads ∷ [])) (answerBytes (t .acks) (t .shown))
-    ++ ascii " " ++ reportText (t .report) ++ ascii "\n"
+plainText t = cycledText (unreported t) ++ ascii " " ++ reportText (t .report) ++ ascii "\n"
 
 abbrev pub gatesText : GateCycled → List ℕ
-gatesText t =
-    cycledText (t .number) (machine (t .state) (t .first ∷ t .second ∷ t .switched ∷ t .heads ∷ [])) (answerBytes (t .acks) (t .shown)) ++ ascii "\n"
+gatesText t = cycledText t ++ ascii "\n"
 
 -- the record stands behind the 25 bytes of the state, where record 5 of a capture would
 abbrev pub asked : List ℕ → Cycled
 asked payload = cycleOf (machineFrom payload) (inputsIn payload 5)
 
-unfoldable pub cycleLine : List ℕ → List ℕ
-cycleLine payload = cond (eqb (length payload) 30) (plainText (asked payload)) malformed
-
-unfoldable pub gateLine : List ℕ → List ℕ
-gateLine payload = cond (eqb (length payload) 30) (gatesText (unreported (asked payload))) malformed
+unfoldable pub cycleLine : List ℕ → Bool → List ℕ
+cycleLine payload byGates = cond (eqb (length payload) 30) (cond byGates (gatesText (unreported (asked payload))) (plainText (asked payload))) malformed

@@ -1,11 +1,11 @@
 // C and D: a single cycle, by the rules and by the gates.
+ghost use mathlib.Core.Path.{_≡_};
 ghost use Rattle.text.specs.Page.{page, Wrote};
-ghost use Rattle.fabric.specs.Cycle.{machine};
-ghost use Rattle.calls.specs.Cycle.{outcomeText, outcomesText, reportText, cycledText, plainText, gatesText, cycleLine, gateLine};
+ghost use Rattle.engine.specs.Cycle.{unreported};
+ghost use Rattle.calls.specs.Cycle.{outcomeText, outcomesText, reportText, cycledText, plainText, gatesText, cycleLine};
 use super::parts;
 use engine::GateCycled;
 use fabric::Cycled;
-use fabric::State;
 use routing::Outcome;
 use routing::Outcomes;
 use routing::Report;
@@ -52,33 +52,50 @@ fn put_report(out: &mut [u8], place: usize, report: Report) -> usize
 }
 
 // Number, state and answer record.
-fn put_cycled(out: &mut [u8], number: u8, s: State, rows: [[u8; 4]; 4], answer: [u8; 5]) -> usize
-    ensures { λ r. ⌜ Wrote (page (now (out .entry)) 0) (cycledText number (machine s rows) answer) (page (now (out .exit)) r) ⌝ }
+fn put_cycled(out: &mut [u8], t: GateCycled) -> usize
+    ensures { λ r. ⌜ Wrote (page (now (out .entry)) 0) (cycledText t) (page (now (out .exit)) r) ⌝ }
 {
-    let a = parts::put_number(&mut *out, 0, number as u64);
-    let b = parts::put_state(&mut *out, a, s, rows);
+    let acks = t.acks;
+    let shown = t.shown;
+    let first = t.first;
+    let second = t.second;
+    let switched = t.switched;
+    let heads = t.heads;
+    let answer = records::answer_bytes(acks, shown);
+    let a = parts::put_number(&mut *out, 0, t.number as u64);
+    let b = parts::put_state(&mut *out, a, t.state, first, second, switched, heads);
     let c = text::put_byte(&mut *out, b, b' ');
     text::put_hex(out, c, &answer)
+}
+
+// What both engines answer of a cycle.
+fn without_report(t: Cycled) -> GateCycled
+    ensures { λ r. ⌜ r ≡ unreported t ⌝ }
+{
+    let acks = t.acks;
+    let shown = t.shown;
+    let state = t.state;
+    let first = t.first;
+    let second = t.second;
+    let switched = t.switched;
+    let heads = t.heads;
+    GateCycled {
+        number: t.number,
+        acks,
+        shown,
+        state,
+        first,
+        second,
+        switched,
+        heads,
+    }
 }
 
 fn put_plain(out: &mut [u8], t: Cycled) -> usize
     ensures { λ r. ⌜ Wrote (page (now (out .entry)) 0) (plainText t) (page (now (out .exit)) r) ⌝ }
 {
-    let first = t.first;
-    let second = t.second;
-    let switched = t.switched;
-    let heads = t.heads;
-    let rows = fabric::rows_of(first, second, switched, heads);
-    let acks = t.acks;
-    let shown = t.shown;
     let report = t.report;
-    let a = put_cycled(
-        &mut *out,
-        t.number,
-        t.state,
-        rows,
-        records::answer_bytes(acks, shown),
-    );
+    let a = put_cycled(&mut *out, without_report(t));
     let b = text::put_byte(&mut *out, a, b' ');
     let c = put_report(&mut *out, b, report);
     text::put_byte(out, c, b'\n')
@@ -87,54 +104,22 @@ fn put_plain(out: &mut [u8], t: Cycled) -> usize
 fn put_gates(out: &mut [u8], t: GateCycled) -> usize
     ensures { λ r. ⌜ Wrote (page (now (out .entry)) 0) (gatesText t) (page (now (out .exit)) r) ⌝ }
 {
-    let first = t.first;
-    let second = t.second;
-    let switched = t.switched;
-    let heads = t.heads;
-    let rows = fabric::rows_of(first, second, switched, heads);
-    let acks = t.acks;
-    let shown = t.shown;
-    let a = put_cycled(
-        &mut *out,
-        t.number,
-        t.state,
-        rows,
-        records::answer_bytes(acks, shown),
-    );
+    let a = put_cycled(&mut *out, t);
     text::put_byte(out, a, b'\n')
 }
 
 // The record stands behind the 25 bytes of the state, where record 5 of a capture would.
-pub fn put_cycle(out: &mut [u8], payload: &[u8]) -> usize
-    ensures { λ r. ⌜ Wrote (page (now (out .entry)) 0) (cycleLine (now (payload .entry))) (page (now (out .exit)) r) ⌝ }
+pub fn put_cycle(out: &mut [u8], payload: &[u8], by_gates: bool) -> usize
+    ensures { λ r. ⌜ Wrote (page (now (out .entry)) 0) (cycleLine (now (payload .entry)) «by_gates») (page (now (out .exit)) r) ⌝ }
 {
     if payload.len() != 30 {
         return parts::put_malformed(out);
     }
+    let s = image::state_from(payload);
+    let rows = image::rows_from(payload);
     let inputs = records::inputs_from(capture::record_at(payload, 5));
-    put_plain(
-        out,
-        fabric::single_cycle(
-            image::state_from(payload),
-            image::rows_from(payload),
-            inputs,
-        ),
-    )
-}
-
-pub fn put_gate_cycle(out: &mut [u8], payload: &[u8]) -> usize
-    ensures { λ r. ⌜ Wrote (page (now (out .entry)) 0) (gateLine (now (payload .entry))) (page (now (out .exit)) r) ⌝ }
-{
-    if payload.len() != 30 {
-        return parts::put_malformed(out);
+    if by_gates {
+        return put_gates(out, engine::single_cycle(s, rows, inputs));
     }
-    let inputs = records::inputs_from(capture::record_at(payload, 5));
-    put_gates(
-        out,
-        engine::single_cycle(
-            image::state_from(payload),
-            image::rows_from(payload),
-            inputs,
-        ),
-    )
+    put_plain(out, fabric::single_cycle(s, rows, inputs))
 }

@@ -7,7 +7,6 @@ mod replay;
 mod state;
 
 pub use cycle::put_cycle;
-pub use cycle::put_gate_cycle;
 pub use evaluate::put_evaluate;
 pub use parts::word_at;
 pub use replay::put_replay;

@@ -1,4 +1,5 @@
 // What the lines are made of, and numbers of several bytes in a payload.
+ghost use mathlib.Core.List.{[], _∷_};
 ghost use mathlib.Core.Path.{_≡_};
 ghost use Prim.Native.Nat.{_<_};
 ghost use Rattle.text.specs.Page.{page, Wrote};
@@ -44,10 +45,18 @@ pub(crate) fn put_number(out: &mut [u8], place: usize, n: u64) -> usize
     text::put_byte(out, next, b' ')
 }
 
-pub(crate) fn put_state(out: &mut [u8], place: usize, s: State, rows: [[u8; 4]; 4]) -> usize
-    ensures { λ r. ⌜ Wrote (page (now (out .entry)) place) (stateText (machine s rows)) (page (now (out .exit)) r) ⌝ }
+pub(crate) fn put_state(
+    out: &mut [u8],
+    place: usize,
+    s: State,
+    first: [u8; 4],
+    second: [u8; 4],
+    switched: [u8; 4],
+    heads: [u8; 4],
+) -> usize
+    ensures { λ r. ⌜ Wrote (page (now (out .entry)) place) (stateText (machine s (first ∷ second ∷ switched ∷ heads ∷ []))) (page (now (out .exit)) r) ⌝ }
 {
-    let bytes = image::image_of(s, rows);
+    let bytes = image::image_of(s, first, second, switched, heads);
     text::put_hex(out, place, &bytes)
 }
 

@@ -14,10 +14,9 @@ fn put_replayed(out: &mut [u8], t: Replayed, buffer: &[u8]) -> usize
     let second = t.second;
     let switched = t.switched;
     let heads = t.heads;
-    let rows = fabric::rows_of(first, second, switched, heads);
     let a = parts::put_number(&mut *out, 0, t.number as u64);
     let b = parts::put_number(&mut *out, a, t.index as u64);
-    let c = parts::put_state(&mut *out, b, t.state, rows);
+    let c = parts::put_state(&mut *out, b, t.state, first, second, switched, heads);
     let d = text::put_byte(&mut *out, c, b' ');
     let e = parts::put_bytes(&mut *out, d, buffer);
     text::put_byte(out, e, b'\n')

@@ -36,9 +36,8 @@ fn put_taken_up(out: &mut [u8], t: TakenUp) -> usize
     let second = t.second;
     let switched = t.switched;
     let heads = t.heads;
-    let rows = fabric::rows_of(first, second, switched, heads);
     let a = parts::put_number(&mut *out, 0, t.number as u64);
-    let b = parts::put_state(&mut *out, a, t.state, rows);
+    let b = parts::put_state(&mut *out, a, t.state, first, second, switched, heads);
     text::put_byte(out, b, b'\n')
 }
 

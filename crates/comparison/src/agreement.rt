@@ -12,7 +12,7 @@ fn end_image(p: Replayed) -> [u8; 25]
     let second = p.second;
     let switched = p.switched;
     let heads = p.heads;
-    image::image_of(p.state, fabric::rows_of(first, second, switched, heads))
+    image::image_of(p.state, first, second, switched, heads)
 }
 
 fn is_same(d: Difference) -> bool

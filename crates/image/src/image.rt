@@ -1,4 +1,5 @@
 // A state image of 25 bytes, written and read.
+ghost use mathlib.Core.List.{[], _∷_};
 ghost use mathlib.Core.Path.{_≡_};
 ghost use Prim.Native.Nat.{_<_};
 ghost use Rattle.routing.specs.Four.{bit};
@@ -8,23 +9,23 @@ ghost use Rattle.image.specs.Image.{imageOf, rowFrom, rowsFrom, set, sta
 use fabric::State;
 use routing::Input;
 
-pub const IMAGE_LEN: usize = 25;
-
 fn flag(b: bool) -> u8
     ensures { λ r. ⌜ r ≡ bit b ⌝ }
 {
     if b { 1 } else { 0 }
 }
 
-pub fn image_of(s: State, rows: [[u8; 4]; 4]) -> [u8; 25]
-    ensures { λ r. ⌜ r ≡ imageOf (machine s rows) ⌝ }
+pub fn image_of(
+    s: State,
+    first: [u8; 4],
+    second: [u8; 4],
+    switched: [u8; 4],
+    heads: [u8; 4],
+) -> [u8; 25]
+    ensures { λ r. ⌜ r ≡ imageOf (machine s (first ∷ second ∷ switched ∷ heads ∷ [])) ⌝ }
 {
     let shut = s.shut;
     let holders = s.holders;
-    let first = rows[0];
-    let second = rows[1];
-    let switched = rows[2];
-    let heads = rows[3];
     [
         flag(s.waiting),
         flag(shut[0]),

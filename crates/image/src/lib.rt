@@ -4,7 +4,6 @@
 
 mod image;
 
-pub use image::IMAGE_LEN;
 pub use image::byte_at;
 pub use image::image_of;
 pub use image::rows_from;

@@ -1,5 +1,5 @@
 -- One letter for each call.
-use mathlib.Core.Bool.{Bool, cond, _&&_, _||_}
+use mathlib.Core.Bool.{Bool, true, false, cond, _&&_, _||_}
 use mathlib.Core.List.{List}
 use Prim.Native.Nat.{ℕ}
 use Prim.Native.Char.{code}
@@ -7,7 +7,7 @@ use lib.Dec.{eqb, ltb, leb}
 use lib.ListN.{length}
 use Rattle.text.specs.Ascii.{ascii}
 use Rattle.calls.specs.Parts.{wordAt}
-use Rattle.calls.specs.Cycle.{cycleLine, gateLine}
+use Rattle.calls.specs.Cycle.{cycleLine}
 use Rattle.calls.specs.Replay.{replayLine}
 use Rattle.calls.specs.State.{saveLine, takeUpLine}
 use Rattle.calls.specs.Evaluate.{evaluateLine}
@@ -20,8 +20,8 @@ tooLong letter payload =
 
 unfoldable pub lineOf : ℕ → List ℕ → List ℕ
 lineOf letter payload =
-    cond (eqb letter (code "C")) (cycleLine payload)
-    (cond (eqb letter (code "D")) (gateLine payload)
+    cond (eqb letter (code "C")) (cycleLine payload false)
+    (cond (eqb letter (code "D")) (cycleLine payload true)
     (cond (eqb letter (code "R")) (replayLine payload)
     (cond (eqb letter (code "G")) (replayLine payload)
     (cond (eqb letter (code "S")) (saveLine payload)

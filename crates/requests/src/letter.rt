@@ -17,8 +17,8 @@ pub(crate) fn put_line(out: &mut [u8], letter: u8, payload: &[u8]) -> usize
     ensures { λ r. ⌜ Wrote (page (now (out .entry)) 0) (lineOf letter (now (payload .entry))) (page (now (out .exit)) r) ⌝ }
 {
     match letter {
-        b'C' => calls::put_cycle(out, payload),
-        b'D' => calls::put_gate_cycle(out, payload),
+        b'C' => calls::put_cycle(out, payload, false),
+        b'D' => calls::put_cycle(out, payload, true),
         b'R' => calls::put_replay(out, payload, false),
         b'G' => calls::put_replay(out, payload, true),
         b'S' => calls::put_save(out, payload),

@@ -1,19 +1,13 @@
-use mathlib.Core.List.{List}
-use Prim.Native.Nat.{ℕ}
+use mathlib.Core.Path.{ap}
 use borrow.Author.Needs.{needs}
 use Rattle.text.proofs.Pages.{_then_, spelt}
-use Rattle.routing.proofs.Equal.{two}
-use Rattle.fabric.specs.Cycle.{machine}
 use Rattle.calls.specs.Cycle.{cycledText}
 use Rattle.calls.proofs.cycle.put_plain.Statement.{statement}
 use Rattle.calls.proofs.cycle.put_plain.Tie as tie
 
 returns : tie.Need-returns
 returns c =
-    let t = c .before .before .before .before .before .before .before .before .before .before .before .before .before .before .before .before .before .before .before .before .before .before .before .before .before .args .t in
-    let text : List (List ℕ) → List ℕ → List ℕ = λ rows answer. cycledText (t .number) (machine (t .state) rows) answer in
-    spelt (c .before .before .before .before .before .before .before .before .before .before .before .before .before .before .put-cycled .ensures) (two text (c .before .before .before .before .before .before .before .before .before .before .before .before .before .before .before .before .before .before .before .rows-of .ensures) (c .before .before .before .before .before .before .before .before .before .before .before .before .before .before .before .answer-bytes .ensures))
-    then c .before .before .before .before .before .before .before .before .before .before .put-byte .ensures then c .before .before .before .before .before .before .put-report .ensures then c .before .before .put-byte2 .ensures
+    spelt (c .before .before .before .before .before .before .before .before .before .before .before .before .before .before .put-cycled .ensures) (ap cycledText (c .before .before .before .before .before .before .before .before .before .before .before .before .before .before .before .without-report .ensures)) then c .before .before .before .before .before .before .before .before .before .before .put-byte .ensures then c .before .before .before .before .before .before .put-report .ensures then c .before .before .put-byte2 .ensures
 
 pub put-plain-spec : {M : Type 1} → statement M
-put-plain-spec = tie.close (tie.spec (λ c κs. search needs) (λ c κs. search needs) (λ c κs. search needs) (λ c κs. search needs) (λ c κs. search needs) (λ c κs. search needs) (λ c. search needs) returns)
+put-plain-spec = tie.close (tie.spec (λ c κs. search needs) (λ c κs. search needs) (λ c κs. search needs) (λ c κs. search needs) (λ c κs. search needs) (λ c. search needs) returns)

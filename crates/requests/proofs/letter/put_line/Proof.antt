@@ -17,7 +17,7 @@ returns c = spelt (c .before .before .put-cycle .ensures) (ap (at (c .before .be
 
 returns-2 : tie.Need-returns-2
 unfolding lineOf
-returns-2 c = spelt (c .before .before .put-gate-cycle .ensures) (ap (at (c .before .before .before .before .before .before .before .args .payload .now)) (sym (c .before .before .before .before .match .keys2)))
+returns-2 c = spelt (c .before .before .put-cycle2 .ensures) (ap (at (c .before .before .before .before .before .before .before .args .payload .now)) (sym (c .before .before .before .before .match .keys2)))
 
 returns-3 : tie.Need-returns-3
 unfolding lineOf
