@@ -6,11 +6,11 @@ use Prim.Native.Char.{code}
 use lib.Dec.{eqb, ltb, leb}
 use lib.ListN.{length}
 use Rattle.text.specs.Ascii.{ascii}
-use Rattle.calls.specs.Parts.{wordAt}
-use Rattle.calls.specs.Cycle.{cycleLine}
-use Rattle.calls.specs.Replay.{replayLine}
-use Rattle.calls.specs.State.{saveLine, takeUpLine}
-use Rattle.calls.specs.Evaluate.{evaluateLine}
+use Rattle.image.specs.Parts.{wordAt}
+use Rattle.call_cycle.specs.Cycle.{cycleLine}
+use Rattle.call_replay.specs.Replay.{replayLine}
+use Rattle.call_replay.specs.State.{saveLine, takeUpLine}
+use Rattle.call_gates.specs.Evaluate.{evaluateLine}
 
 -- a request that is well-formed asks for a buffer of more than 65,536 bytes
 abbrev pub tooLong : ℕ → List ℕ → Bool

@@ -10,20 +10,20 @@ pub(crate) fn too_long(letter: u8, payload: &[u8]) -> bool
     let n = payload.len();
     let replays = ((letter == b'R') | (letter == b'G')) & (29 <= n);
     let saves = (letter == b'S') & (n == 29);
-    (replays | saves) & (65536 < calls::word_at(payload, 25))
+    (replays | saves) & (65536 < image::word_at(payload, 25))
 }
 
 pub(crate) fn put_line(out: &mut [u8], letter: u8, payload: &[u8]) -> usize
     ensures { λ r. ⌜ Wrote (page (now (out .entry)) 0) (lineOf letter (now (payload .entry))) (page (now (out .exit)) r) ⌝ }
 {
     match letter {
-        b'C' => calls::put_cycle(out, payload, false),
-        b'D' => calls::put_cycle(out, payload, true),
-        b'R' => calls::put_replay(out, payload, false),
-        b'G' => calls::put_replay(out, payload, true),
-        b'S' => calls::put_save(out, payload),
-        b'T' => calls::put_take_up(out, payload),
-        b'E' => calls::put_evaluate(out, payload),
+        b'C' => call_cycle::put_cycle(out, payload, false),
+        b'D' => call_cycle::put_cycle(out, payload, true),
+        b'R' => call_replay::put_replay(out, payload, false),
+        b'G' => call_replay::put_replay(out, payload, true),
+        b'S' => call_replay::put_save(out, payload),
+        b'T' => call_replay::put_take_up(out, payload),
+        b'E' => call_gates::put_evaluate(out, payload),
         _ => text::put_text(out, 0, b"unknown\n"),
     }
 }

@@ -1,5 +1,0 @@
-pub mod Parts
-pub mod Cycle
-pub mod Replay
-pub mod State
-pub mod Evaluate

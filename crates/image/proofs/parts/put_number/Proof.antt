@@ -1,0 +1,10 @@
+use borrow.Author.Needs.{needs}
+use Rattle.text.proofs.Pages.{_then_}
+use Rattle.image.proofs.parts.put_number.Statement.{statement}
+use Rattle.image.proofs.parts.put_number.Tie as tie
+
+returns : tie.Need-returns
+returns c = c .before .before .before .before .before .before .put-decimal .ensures then c .before .before .put-byte .ensures
+
+pub put-number-spec : {M : Type 1} → statement M
+put-number-spec = tie.close (tie.spec (λ c κs. search needs) (λ c κs. search needs) (λ c. search needs) returns)
