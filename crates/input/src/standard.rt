@@ -98,7 +98,9 @@ fn count_rest() -> Taken
 }
 
 // Keeps the start of the input in the buffer and counts all of it.
-pub fn take_in(buf: &mut [u8]) -> Taken {
+pub fn take_in(buf: &mut [u8]) -> Taken
+    ensures { λ r. ⌜ r .total ≤ length (now (buf .entry)) + 9223372036854775808 ⌝ }
+{
     let start = fill(&mut *buf);
     let kept = start.length as u64;
     if start.failed {
