@@ -7,7 +7,7 @@ use Rattle.text.specs.Page.{Page, Wrote}
 use Rattle.text.proofs.Lists.{take-replicate, part-all}
 use Rattle.text.proofs.Pages.{spelt}
 use Rattle.routing.proofs.Equal.{two}
-use Rattle.fabric.specs.declared.state.State.{State}
+use Rattle.states.specs.declared.state.State.{State}
 use Rattle.fabric.specs.Cycle.{Machine, machine}
 use Rattle.capture.specs.declared.run.Replayed.{Replayed}
 use Rattle.capture.specs.Replay.{replayOf, replayWrites}

@@ -7,9 +7,9 @@ use native.Mathlib.Omega.{arith}
 use lib.Dec.{eqb, ltb}
 use lib.ListN.{length}
 use borrow.Author.Tests.{eq-eqb, ne-eqb, eqb-true, lt-ltb, le-ltb, ltb-false}
-use Rattle.fabric.specs.declared.state.State.{State}
-use Rattle.fabric.specs.State.{_when_otherwise_, stateRefusal}
-use Rattle.fabric.proofs.Calls.{by-first, by-later, both-zero}
+use Rattle.states.specs.declared.state.State.{State}
+use Rattle.states.specs.State.{_when_otherwise_, stateRefusal}
+use Rattle.states.proofs.Calls.{by-first, by-later, both-zero}
 use Rattle.capture.specs.declared.refusal.Judged.the-variants.{Refused, Done}
 use Rattle.capture.specs.Capture.{records}
 use Rattle.capture.specs.Refusal.{limit, earlyRefusal, firstBad, judged}

@@ -7,7 +7,7 @@ use native.Mathlib.Numerals.{add-one}
 use native.Mathlib.Omega.{arith}
 use lib.ListN.{length, take, drop}
 use lib.Seq.{sets-eq, length-sets, take-at, drop-drop, drop-append-add}
-use Rattle.fabric.specs.declared.state.State.{State}
+use Rattle.states.specs.declared.state.State.{State}
 use Rattle.routing.specs.Four.{four}
 use Rattle.fabric.specs.Cycle.{Machine, machine, shown, acked, stepped}
 use Rattle.fabric.specs.Run.{runOf}

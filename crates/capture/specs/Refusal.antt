@@ -4,8 +4,8 @@ use mathlib.Core.List.{List}
 use Prim.Native.Nat.{ℕ, zero, suc, _%_}
 use lib.Dec.{eqb, ltb}
 use lib.ListN.{length}
-use Rattle.fabric.specs.declared.state.State.{State}
-use Rattle.fabric.specs.State.{_when_otherwise_, _orElse_, stateRefusal}
+use Rattle.states.specs.declared.state.State.{State}
+use Rattle.states.specs.State.{_when_otherwise_, _orElse_, stateRefusal}
 use Rattle.records.specs.Record.{byteAt, spareSet}
 use Rattle.capture.specs.declared.refusal.Judged.{Judged}
 use Rattle.capture.specs.declared.refusal.Judged.the-variants.{Refused, Done}

@@ -2,7 +2,7 @@
 use mathlib.Core.List.{List, _++_}
 use Prim.Native.Nat.{ℕ, _*_}
 use lib.ListN.{length, drop}
-use Rattle.fabric.specs.State.{firstRow, secondRow, switchRow, headRow}
+use Rattle.states.specs.State.{firstRow, secondRow, switchRow, headRow}
 use Rattle.fabric.specs.Cycle.{Machine}
 use Rattle.fabric.specs.Run.{runOf}
 use Rattle.records.specs.Answers.{answersOf}

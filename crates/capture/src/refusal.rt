@@ -3,7 +3,7 @@ ghost use mathlib.Core.Path.{_≡_};
 ghost use Rattle.records.specs.Record.{spareSet};
 ghost use Rattle.capture.specs.Capture.{records};
 ghost use Rattle.capture.specs.Refusal.{earlyRefusal, firstBad, judged};
-use fabric::State;
+use states::State;
 
 const LIMIT: usize = 12288;
 
@@ -15,7 +15,7 @@ pub enum Judged {
 fn early_refusal(s: State, capture: &[u8], room: usize) -> u8
     ensures { λ r. ⌜ r ≡ earlyRefusal s (now (capture .entry)) room ⌝ }
 {
-    let number = fabric::refusal(s);
+    let number = states::refusal(s);
     if number != 0 {
         return number;
     }

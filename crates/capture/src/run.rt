@@ -9,7 +9,7 @@ ghost use Rattle.capture.specs.Replay.{endOf, answers, handedBack, repla
 use super::record;
 use super::refusal;
 use super::refusal::Judged;
-use fabric::State;
+use states::State;
 
 // What a replay hands back: the refusal's number or 0, the index of a bad record or 0, the state and the four rows.
 pub struct Replayed {
@@ -61,7 +61,7 @@ fn run(s: State, rows: [[u8; 4]; 4], capture: &[u8], buffer: &mut [u8]) -> Repla
         let second = t.second;
         let switched = t.switched;
         let heads = t.heads;
-        r = fabric::rows_of(first, second, switched, heads);
+        r = states::rows_of(first, second, switched, heads);
         state = t.state;
         k += 1;
     }

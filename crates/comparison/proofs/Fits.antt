@@ -12,7 +12,7 @@ use Rattle.text.specs.Page.{page, Wrote}
 use Rattle.text.specs.Digits.{decimalIn, decimal}
 use Rattle.text.proofs.Decimals.{few-digits}
 use Rattle.text.proofs.Room.{all-there}
-use Rattle.fabric.specs.State.{resetState, stateRefusal}
+use Rattle.states.specs.State.{resetState, stateRefusal}
 use Rattle.records.proofs.Answered.{answers-length}
 use Rattle.capture.specs.Capture.{records, inputsIn}
 use Rattle.capture.specs.Refusal.{limit, earlyRefusal, firstBad}

@@ -10,8 +10,8 @@ use Rattle.text.specs.declared.difference.Difference.the-variants.{Same, At}
 use Rattle.text.specs.Page.{Page, Wrote}
 use Rattle.text.proofs.Pages.{spelt}
 use Rattle.routing.proofs.Equal.{two}
-use Rattle.fabric.specs.declared.state.State.{State}
-use Rattle.fabric.specs.State.{resetState, resetRows}
+use Rattle.states.specs.declared.state.State.{State}
+use Rattle.states.specs.State.{resetState, resetRows}
 use Rattle.fabric.specs.Cycle.{Machine, machine}
 use Rattle.capture.specs.declared.run.Replayed.{Replayed}
 use Rattle.capture.specs.Replay.{replayOf, replayWrites}

@@ -9,7 +9,7 @@ use lib.ListN.{length, take, length-replicate}
 use lib.Seq.{take-all, length-take-le}
 use borrow.Author.Tests.{ltb-true, ltb-false, eqb-true, eqb-false}
 use Rattle.routing.proofs.Equal.{two}
-use Rattle.fabric.specs.State.{resetState, stateRefusal}
+use Rattle.states.specs.State.{resetState, stateRefusal}
 use Rattle.capture.specs.declared.refusal.Judged.{Judged}
 use Rattle.capture.specs.Capture.{records}
 use Rattle.capture.specs.Refusal.{limit, judged}

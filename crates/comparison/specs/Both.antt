@@ -4,7 +4,7 @@ use mathlib.Core.List.{List}
 use Prim.Native.Nat.{ℕ, _+_, _%_}
 use lib.Dec.{ltb}
 use lib.ListN.{length, take, replicate}
-use Rattle.fabric.specs.State.{resetState, resetRows}
+use Rattle.states.specs.State.{resetState, resetRows}
 use Rattle.fabric.specs.Cycle.{Machine, machine}
 use Rattle.capture.specs.Replay.{replayOf, replayWrites}
 use Rattle.text.specs.declared.difference.Difference.{Difference}

@@ -12,8 +12,8 @@ fn replay_into(capture: &[u8], plain: &mut [u8], gates: &mut [u8], out: &mut [u8
     ensures agreed { λ r. ⌜ r .agreed ≡ isSame (bothDiffer (now (capture .entry)) (now (plain .entry)) (now (gates .entry))) ⌝ }
     ensures writes { λ r. ⌜ Wrote (page (now (out .entry)) 0) (bothText (now (capture .entry)) (now (plain .entry)) (now (gates .entry))) (page (now (out .exit)) (r .length)) ⌝ }
 {
-    let s = fabric::reset_state();
-    let rows = fabric::reset_rows();
+    let s = states::reset_state();
+    let rows = states::reset_rows();
     let p = capture::replay(s, rows, capture, &mut *plain);
     let g = engine::replay(s, rows, capture, &mut *gates);
     verdict::put_verdict(out, p, g, plain, gates)

@@ -11,8 +11,8 @@ use Rattle.routing.specs.Header.{headerOf}
 use Rattle.routing.proofs.Equal.{row-of}
 use Rattle.routing.proofs.Fours.{row, at-four}
 use Rattle.routing.proofs.Tests.{flag, upto, flags, everywhere, beq→eq}
-use Rattle.fabric.specs.declared.state.State.{State}
-use Rattle.fabric.specs.State.{shutAt, holderAt, Held}
+use Rattle.states.specs.declared.state.State.{State}
+use Rattle.states.specs.State.{shutAt, holderAt, Held}
 use Rattle.fabric.specs.Cycle.{acked, switchByte, switchAfter}
 use Rattle.blocks.specs.Choose.{chosen}
 use Rattle.blocks.proofs.Truths.{select-law, choose-law}

@@ -14,10 +14,10 @@ use Rattle.routing.specs.Route.{asked, remains, winner, routes}
 use Rattle.routing.proofs.Equal.{two, row-of}
 use Rattle.routing.proofs.Fours.{at-four}
 use Rattle.routing.proofs.Winners.{some-remain}
-use Rattle.fabric.specs.declared.state.State.{State}
-use Rattle.fabric.specs.State.{shutAt, holderOf, holderAt, Held}
+use Rattle.states.specs.declared.state.State.{State}
+use Rattle.states.specs.State.{shutAt, holderOf, holderAt, Held}
 use Rattle.fabric.specs.Cycle.{holderAfter, waitingAfter, shutAfter, stateAfter}
-use Rattle.fabric.proofs.Equal.{state-of}
+use Rattle.states.proofs.Equal.{state-of}
 use Rattle.blocks.specs.declared.decode.Requests.{Requests}
 use Rattle.blocks.specs.declared.phase.Timing.{Timing}
 use Rattle.blocks.specs.Lines.{lines}

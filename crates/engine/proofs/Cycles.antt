@@ -5,9 +5,9 @@ use mathlib.Core.List.{List}
 use Prim.Native.Nat.{ℕ, _<_}
 use lib.Dec.{lit<}
 use lib.ListN.{getD}
-use Rattle.fabric.specs.declared.state.State.{State}
+use Rattle.states.specs.declared.state.State.{State}
 use Rattle.fabric.specs.declared.cycle.Inputs.{Inputs}
-use Rattle.fabric.specs.State.{holderAt, Held, firstRow, secondRow, switchRow}
+use Rattle.states.specs.State.{holderAt, Held, firstRow, secondRow, switchRow}
 use Rattle.fabric.specs.Cycle.{Machine, shown, stateAfter, rowsAfter, stepOf}
 use Rattle.fabric.proofs.Steps.{holder-below}
 use Rattle.engine.specs.declared.cycle.GateCycled.{GateCycled}

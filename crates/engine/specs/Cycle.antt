@@ -1,7 +1,7 @@
 -- A cycle of the gate engine. It answers what the plain cycle does, and reports nothing.
 use Rattle.fabric.specs.declared.cycle.Inputs.{Inputs}
 use Rattle.fabric.specs.declared.cycle.Cycled.{Cycled}
-use Rattle.fabric.specs.State.{firstRow, secondRow, switchRow}
+use Rattle.states.specs.State.{firstRow, secondRow, switchRow}
 use Rattle.fabric.specs.Cycle.{Machine, shown}
 use Rattle.engine.specs.declared.cycle.GateCycled.{GateCycled}
 use Rattle.engine.specs.Wiring.{gateState, gateAcks, gateSwitch}

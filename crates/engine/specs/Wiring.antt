@@ -7,8 +7,8 @@ use lib.ListN.{getD}
 use Rattle.routing.specs.Four.{four, bitAt}
 use Rattle.routing.specs.Port.{input}
 use Rattle.routing.specs.Header.{headerOf}
-use Rattle.fabric.specs.declared.state.State.{State}
-use Rattle.fabric.specs.State.{shutAt, holderAt}
+use Rattle.states.specs.declared.state.State.{State}
+use Rattle.states.specs.State.{shutAt, holderAt}
 use Rattle.blocks.specs.declared.decode.Requests.{Requests}
 use Rattle.blocks.specs.declared.phase.Timing.{Timing}
 use Rattle.blocks.specs.declared.turn.Holder.{Holder}

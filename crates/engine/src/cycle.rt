@@ -1,13 +1,13 @@
 // A cycle by gates.
 ghost use mathlib.Core.Path.{_≡_};
 ghost use Rattle.routing.specs.Four.{four};
-ghost use Rattle.fabric.specs.State.{Held};
+ghost use Rattle.states.specs.State.{Held};
 ghost use Rattle.fabric.specs.Cycle.{machine, acked, switchAfter, stepOf, refusedCycle, cycleOf};
 ghost use Rattle.engine.specs.Wiring.{gateState, gateAcks, gateSwitch};
 ghost use Rattle.engine.specs.Cycle.{gateStepOf, unreported};
 use super::wiring;
 use fabric::Inputs;
-use fabric::State;
+use states::State;
 
 // What a cycle answers: the refusal's number or 0, the acknowledgements to the inputs, the shown head bytes; then the state and the four rows
 // at the start of the next cycle.
@@ -101,7 +101,7 @@ fn refused(number: u8, s: State, rows: [[u8; 4]; 4]) -> GateCycled
 pub fn single_cycle(s: State, rows: [[u8; 4]; 4], i: Inputs) -> GateCycled
     ensures { λ r. ⌜ r ≡ unreported (cycleOf (machine s rows) i) ⌝ }
 {
-    let number = fabric::refusal(s);
+    let number = states::refusal(s);
     if number != 0 {
         return refused(number, s, rows);
     }

@@ -3,14 +3,14 @@ ghost use mathlib.Core.Path.{_≡_};
 ghost use mathlib.Core.List.{_++_};
 ghost use Prim.Native.Nat.{_*_, _≤_};
 ghost use lib.ListN.{length, drop};
-ghost use Rattle.fabric.specs.State.{Held};
+ghost use Rattle.states.specs.State.{Held};
 ghost use Rattle.fabric.specs.Cycle.{machine};
 ghost use Rattle.capture.specs.Capture.{records};
 ghost use Rattle.capture.specs.Replay.{endOf, answers, handedBack, replayOf, replayWrites};
 use super::cycle;
 use capture::Judged;
 use capture::Replayed;
-use fabric::State;
+use states::State;
 
 // All whole records of a capture, one after the other.
 fn run(s: State, rows: [[u8; 4]; 4], capture: &[u8], buffer: &mut [u8]) -> Replayed
@@ -32,7 +32,7 @@ fn run(s: State, rows: [[u8; 4]; 4], capture: &[u8], buffer: &mut [u8]) -> Repla
         let second = t.second;
         let switched = t.switched;
         let heads = t.heads;
-        r = fabric::rows_of(first, second, switched, heads);
+        r = states::rows_of(first, second, switched, heads);
         state = t.state;
         k += 1;
     }

@@ -4,15 +4,15 @@ use mathlib.Core.Path.{_≡_, sym, ap, _∙_}
 use mathlib.Core.List.{List, [], _∷_}
 use Prim.Native.Nat.{ℕ}
 use Rattle.routing.specs.declared.port.Input.{Input}
-use Rattle.fabric.specs.declared.state.State.{State}
+use Rattle.states.specs.declared.state.State.{State}
 use Rattle.routing.specs.declared.route.Report.{Report}
 use Rattle.fabric.specs.declared.cycle.Inputs.{Inputs}
 use Rattle.routing.specs.Four.{four}
-use Rattle.fabric.specs.State.{shutAt, holderOf, firstRow, secondRow, switchRow}
+use Rattle.states.specs.State.{shutAt, holderOf, firstRow, secondRow, switchRow}
 use Rattle.routing.specs.Port.{input}
 use Rattle.routing.specs.Route.{asked, winner, routes}
 use Rattle.fabric.specs.Cycle.{Machine, shown, acked, report, holderAfter, waitingAfter, shutAfter, stateAfter, switchAfter, rowsAfter, stepOf}
-use Rattle.fabric.proofs.Equal.{state-of}
+use Rattle.states.proofs.Equal.{state-of}
 
 -- rule 4, for one output: without a routing, with one and an asker, with one and none
 module _ (routing : Bool) (headers : List ℕ) (o : ℕ) (h : Input) where

@@ -6,15 +6,15 @@ use Prim.Native.Nat.{ℕ, zero, suc, _<_}
 use native.Mathlib.Omega.{arith}
 use lib.Dec.{ltb}
 use borrow.Author.Tests.{le-ltb}
-use Rattle.fabric.specs.declared.state.State.{State}
-use Rattle.fabric.specs.State.{shutAt, holderOf, holderAt, openWhileWaiting, shareHolder, heldTwice, stateRefusal}
+use Rattle.states.specs.declared.state.State.{State}
+use Rattle.states.specs.State.{shutAt, holderOf, holderAt, openWhileWaiting, shareHolder, heldTwice, stateRefusal}
 use Rattle.routing.specs.Port.{input}
 use Rattle.routing.specs.declared.port.Input.{Input}
 use Rattle.routing.specs.Route.{asked, remains, winner, routes}
 use Rattle.fabric.specs.Cycle.{waitingAfter, shutAfter, holderAfter, stateAfter}
 use Rattle.routing.proofs.Fours.{at-four, none-of, or-left, or-right}
 use Rattle.routing.proofs.Turns.{turn-lt}
-use Rattle.fabric.proofs.States.{accepted}
+use Rattle.states.proofs.States.{accepted}
 
 module _ (s : State) (headers : List ℕ) (frame : Bool) where
   -- rule 5

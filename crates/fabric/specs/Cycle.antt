@@ -5,14 +5,14 @@ use Prim.Native.Nat.{ℕ}
 use lib.Dec.{eqb}
 use lib.ListN.{getD}
 use Rattle.routing.specs.declared.port.Input.{Input}
-use Rattle.fabric.specs.declared.state.State.{State}
+use Rattle.states.specs.declared.state.State.{State}
 use Rattle.routing.specs.declared.route.Report.{Report}
 use Rattle.routing.specs.declared.route.Report.the-variants.{NoRouting}
 use Rattle.fabric.specs.declared.cycle.Inputs.{Inputs}
 use Rattle.fabric.specs.declared.cycle.Cycled.{Cycled}
 use Rattle.routing.specs.Four.{four, some}
 use Rattle.routing.specs.Port.{input}
-use Rattle.fabric.specs.State.{shutAt, holderOf, holderAt, firstRow, secondRow, switchRow, headRow, zeroRow, stateRefusal}
+use Rattle.states.specs.State.{shutAt, holderOf, holderAt, firstRow, secondRow, switchRow, headRow, zeroRow, stateRefusal}
 use Rattle.routing.specs.Route.{asked, winner, routes, reported}
 
 -- The state and the rows beside it.

@@ -3,13 +3,12 @@ ghost use mathlib.Core.Path.{_≡_};
 ghost use mathlib.Core.Bool.{_&&_};
 ghost use Rattle.routing.specs.Four.{four};
 ghost use Rattle.routing.specs.Route.{asked};
-ghost use Rattle.fabric.specs.State.{shutAt, holderOf};
+ghost use Rattle.states.specs.State.{shutAt, holderOf};
 ghost use Rattle.fabric.specs.Cycle.{machine, acked, holderAfter, waitingAfter, shutAfter, stateAfter, switchByte, switchAfter, stepOf, refusedCycle, cycleOf};
-use super::state;
-use super::state::State;
 use routing::Input;
 use routing::Output;
 use routing::Report;
+use states::State;
 
 // The inputs of a cycle: frame start, four bytes, four output acknowledgements.
 pub struct Inputs {
@@ -206,7 +205,7 @@ fn refused(number: u8, s: State, rows: [[u8; 4]; 4]) -> Cycled
 pub fn single_cycle(s: State, rows: [[u8; 4]; 4], i: Inputs) -> Cycled
     ensures { λ r. ⌜ r ≡ cycleOf (machine s rows) i ⌝ }
 {
-    let number = state::refusal(s);
+    let number = states::refusal(s);
     if number != 0 {
         return refused(number, s, rows);
     }

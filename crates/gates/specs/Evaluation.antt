@@ -5,7 +5,7 @@ use Prim.Native.Nat.{ℕ, suc, _+_, _*_, _/_, _^_}
 use lib.Dec.{eqb, ltb}
 use lib.ListN.{length}
 use Rattle.routing.specs.Four.{bit}
-use Rattle.fabric.specs.State.{_when_otherwise_}
+use Rattle.states.specs.State.{_when_otherwise_}
 use Rattle.gates.specs.declared.evaluator.Evaluated.{Evaluated}
 use Rattle.gates.specs.declared.evaluator.Fault.{Fault}
 use Rattle.gates.specs.Word.{gate, wrong, late}

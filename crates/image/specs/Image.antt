@@ -3,10 +3,10 @@ use mathlib.Core.Bool.{Bool, not}
 use mathlib.Core.List.{List, [], _∷_, _++_}
 use Prim.Native.Nat.{ℕ, _+_}
 use lib.Dec.{eqb}
-use Rattle.fabric.specs.declared.state.State.{State}
+use Rattle.states.specs.declared.state.State.{State}
 use Rattle.routing.specs.Four.{four, bit}
 use Rattle.routing.specs.Port.{input}
-use Rattle.fabric.specs.State.{shutAt, holderAt, firstRow, secondRow, switchRow, headRow}
+use Rattle.states.specs.State.{shutAt, holderAt, firstRow, secondRow, switchRow, headRow}
 use Rattle.fabric.specs.Cycle.{Machine, machine}
 use Rattle.records.specs.Record.{byteAt}
 

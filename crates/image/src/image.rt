@@ -6,8 +6,8 @@ ghost use Rattle.routing.specs.Four.{bit};
 ghost use Rattle.fabric.specs.Cycle.{machine};
 ghost use Rattle.records.specs.Record.{byteAt};
 ghost use Rattle.image.specs.Image.{imageOf, rowFrom, rowsFrom, set, stateFrom};
-use fabric::State;
 use routing::Input;
+use states::State;
 
 fn flag(b: bool) -> u8
     ensures { λ r. ⌜ r ≡ bit b ⌝ }

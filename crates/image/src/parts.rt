@@ -6,7 +6,7 @@ ghost use Rattle.text.specs.Page.{page, Wrote};
 ghost use Rattle.fabric.specs.Cycle.{machine};
 ghost use Rattle.image.specs.Parts.{wordAt, longAt, bytesText, stateText, numberText};
 use super::image;
-use fabric::State;
+use states::State;
 
 fn wide(b: u8) -> u64
     ensures { λ r. ⌜ (r ≡ b) × (r < 256) ⌝ }

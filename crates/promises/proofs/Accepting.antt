@@ -8,15 +8,15 @@ use native.Mathlib.Omega.{arith}
 use lib.Dec.{eqb}
 use borrow.Author.Tests.{ne-eqb, not-false}
 use Rattle.routing.specs.declared.port.Input.{Input}
-use Rattle.fabric.specs.declared.state.State.{State}
+use Rattle.states.specs.declared.state.State.{State}
 use Rattle.routing.specs.Four.{some}
 use Rattle.routing.specs.Header.{outputAsked, headerOf, someActive}
-use Rattle.fabric.specs.State.{shutAt, holderAt, secondRow, openWhileWaiting, shareHolder, stateRefusal}
+use Rattle.states.specs.State.{shutAt, holderAt, secondRow, openWhileWaiting, shareHolder, stateRefusal}
 use Rattle.routing.specs.Route.{asked, winner, routes}
 use Rattle.fabric.specs.Cycle.{shutAfter, stateAfter}
 use Rattle.fabric.specs.Run.{runOf}
 use Rattle.routing.proofs.Fours.{no-at, none-of, and-left}
-use Rattle.fabric.proofs.States.{held-at, not-open-waiting, not-twice}
+use Rattle.states.proofs.States.{held-at, not-open-waiting, not-twice}
 use Rattle.fabric.proofs.Steps.{waiting-step, shut-step, holder-step, holder-below, no-pair, accepted-of}
 use Rattle.routing.proofs.Winners.{winner-output}
 use Rattle.promises.specs.Accepted.{Accepted, ResetAccepted, CycleAccepted, RunAccepted}

@@ -9,16 +9,16 @@ use native.Mathlib.Omega.{arith}
 use lib.Dec.{eqb}
 use lib.ListN.{length, getD, take, drop}
 use lib.Seq.{take-at}
-use Rattle.fabric.specs.declared.state.State.{State}
+use Rattle.states.specs.declared.state.State.{State}
 use Rattle.routing.specs.Four.{bit}
 use Rattle.routing.specs.Port.{input}
-use Rattle.fabric.specs.State.{shutAt, holderAt, Held, firstRow, secondRow, switchRow, headRow, stateRefusal}
+use Rattle.states.specs.State.{shutAt, holderAt, Held, firstRow, secondRow, switchRow, headRow, stateRefusal}
 use Rattle.fabric.specs.Cycle.{Machine}
-use Rattle.fabric.proofs.Calls.{answered}
-use Rattle.fabric.proofs.Equal.{state-of}
+use Rattle.states.proofs.Calls.{answered}
+use Rattle.states.proofs.Equal.{state-of}
 use Rattle.routing.proofs.Equal.{row-of}
 use Rattle.routing.proofs.Masks.{bit-digit, bit-le}
-use Rattle.fabric.proofs.States.{held}
+use Rattle.states.proofs.States.{held}
 use Rattle.saved.specs.declared.taking_up.TakenUp.{TakenUp}
 use Rattle.saved.specs.Saved.{wordOf, savedOf, saveRefusal, saveWrites, wordIn, stateIn, takeUpRefusal, takenUp, takeUpOf}
 use Rattle.saved.proofs.Equal.{taken-up}

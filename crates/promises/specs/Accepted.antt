@@ -1,9 +1,9 @@
 -- Accepted states: a call to which a state is handed accepts it, or refuses it by 14, 7 or 8.
 use mathlib.Core.Path.{_≡_}
 use Prim.Native.Nat.{ℕ}
-use Rattle.fabric.specs.declared.state.State.{State}
+use Rattle.states.specs.declared.state.State.{State}
 use Rattle.fabric.specs.declared.cycle.Inputs.{Inputs}
-use Rattle.fabric.specs.State.{resetState, stateRefusal}
+use Rattle.states.specs.State.{resetState, stateRefusal}
 use Rattle.fabric.specs.Cycle.{Machine, stepped}
 use Rattle.fabric.specs.Run.{runOf}
 

@@ -5,7 +5,7 @@ use mathlib.Core.List.{List, [], _∷_}
 use Prim.Native.Nat.{ℕ, _<_, _≤_}
 use lib.ListN.{length, getD, take}
 use Rattle.fabric.specs.declared.cycle.Inputs.{Inputs}
-use Rattle.fabric.specs.State.{firstRow, secondRow, switchRow, headRow}
+use Rattle.states.specs.State.{firstRow, secondRow, switchRow, headRow}
 use Rattle.fabric.specs.Cycle.{Machine, machine}
 use Rattle.saved.specs.declared.taking_up.TakenUp.{TakenUp}
 use Rattle.records.specs.Record.{inputsFrom, recordOf, spareSet, answerBytes, answerFrom}

@@ -2,7 +2,7 @@
 use mathlib.Core.Path.{_≡_}
 use mathlib.Core.List.{List}
 use Prim.Native.Nat.{ℕ}
-use Rattle.fabric.specs.declared.state.State.{State}
+use Rattle.states.specs.declared.state.State.{State}
 use Rattle.saved.specs.declared.taking_up.TakenUp.{TakenUp}
 
 abbrev taken : ℕ → State → List ℕ → List ℕ → List ℕ → List ℕ → TakenUp

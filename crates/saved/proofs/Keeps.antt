@@ -8,11 +8,11 @@ use lib.Dec.{eqb, ltb}
 use lib.ListN.{length, drop}
 use lib.Seq.{sets, sets-eq}
 use borrow.Author.Tests.{eq-eqb, ne-eqb, eqb-true, le-ltb, ltb-false}
-use Rattle.fabric.specs.declared.state.State.{State}
-use Rattle.fabric.specs.State.{_when_otherwise_, firstRow, secondRow, switchRow, headRow, stateRefusal}
+use Rattle.states.specs.declared.state.State.{State}
+use Rattle.states.specs.State.{_when_otherwise_, firstRow, secondRow, switchRow, headRow, stateRefusal}
 use Rattle.fabric.specs.Cycle.{Machine}
 use Rattle.saved.specs.Saved.{rowBytes, savedBytes, savedOf, saveRefusal, saveWrites, wordIn, stateIn, takeUpRefusal}
-use Rattle.fabric.proofs.Calls.{both-zero}
+use Rattle.states.proofs.Calls.{both-zero}
 
 -- the word and the four rows, put one after the other, are the saved bytes
 pub in-order : (w : ℕ) (rows : List (List ℕ)) (l : List ℕ) {a b c d e : List ℕ} → a ≡ sets l 0 (w / 256 ∷ w % 256 ∷ []) → b ≡ sets a 2 (rowBytes (firstRow rows))

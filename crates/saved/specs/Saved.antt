@@ -4,11 +4,11 @@ use mathlib.Core.List.{List, [], _∷_, _++_}
 use Prim.Native.Nat.{ℕ, _+_, _*_, _/_, _%_, _^_}
 use lib.Dec.{eqb, ltb}
 use lib.ListN.{length, drop}
-use Rattle.fabric.specs.declared.state.State.{State}
+use Rattle.states.specs.declared.state.State.{State}
 use Rattle.saved.specs.declared.taking_up.TakenUp.{TakenUp}
 use Rattle.routing.specs.Four.{four, bit, bitAt}
 use Rattle.routing.specs.Port.{input}
-use Rattle.fabric.specs.State.{shutAt, holderAt, firstRow, secondRow, switchRow, headRow, resetState, zeroRow, _when_otherwise_, _orElse_, stateRefusal}
+use Rattle.states.specs.State.{shutAt, holderAt, firstRow, secondRow, switchRow, headRow, resetState, zeroRow, _when_otherwise_, _orElse_, stateRefusal}
 use Rattle.fabric.specs.Cycle.{Machine}
 use Rattle.records.specs.Record.{byteAt}
 

@@ -6,9 +6,9 @@ ghost use lib.ListN.{length};
 ghost use lib.Seq.{sets};
 ghost use Rattle.routing.specs.Four.{bit};
 ghost use Rattle.fabric.specs.Cycle.{machine};
-ghost use Rattle.fabric.specs.State.{Held};
+ghost use Rattle.states.specs.State.{Held};
 ghost use Rattle.saved.specs.Saved.{wordOf, rowBytes, savedBytes, saveRefusal, saveWrites};
-use fabric::State;
+use states::State;
 
 pub(crate) const SAVED_LEN: usize = 18;
 
@@ -66,7 +66,7 @@ fn put_saved(out: &mut [u8], w: u16, rows: [[u8; 4]; 4])
 fn save_refusal(s: State, room: usize) -> u8
     ensures { λ r. ⌜ r ≡ saveRefusal s room ⌝ }
 {
-    let number = fabric::refusal(s);
+    let number = states::refusal(s);
     if number != 0 {
         return number;
     }

@@ -4,8 +4,8 @@ ghost use Prim.Native.Nat.{_+_, _/_, _%_, _<_};
 ghost use lib.ListN.{length};
 ghost use Rattle.saved.specs.Saved.{wordIn, stateIn, rowIn, takeUpRefusal, takenUp, notTakenUp, takeUpOf};
 use super::saving::SAVED_LEN;
-use fabric::State;
 use routing::Input;
+use states::State;
 
 // What taking up answers: the refusal's number or 0, the state and the four rows.
 pub struct TakenUp {
@@ -56,7 +56,7 @@ fn not_taken_up(number: u8) -> TakenUp
     let zeros = [0u8; 4];
     TakenUp {
         number,
-        state: fabric::reset_state(),
+        state: states::reset_state(),
         first: zeros,
         second: zeros,
         switched: zeros,
@@ -81,7 +81,7 @@ fn take_up_refusal(b: &[u8]) -> u8
     if w % 8 != 0 {
         return 6;
     }
-    fabric::refusal(state_in(w))
+    states::refusal(state_in(w))
 }
 
 fn taken_up(b: &[u8]) -> TakenUp

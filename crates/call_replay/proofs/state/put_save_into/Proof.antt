@@ -3,7 +3,7 @@ use lib.ListN.{length}
 use borrow.Author.Needs.{needs}
 use Rattle.text.proofs.Pages.{_then_, spelt}
 use Rattle.routing.proofs.Equal.{two}
-use Rattle.fabric.specs.declared.state.State.{State}
+use Rattle.states.specs.declared.state.State.{State}
 use Rattle.fabric.specs.Cycle.{Machine, machine}
 use Rattle.saved.specs.Saved.{saveRefusal, saveWrites}
 use Rattle.image.specs.Parts.{numberText, bytesText}

@@ -1,7 +1,7 @@
 use mathlib.Core.Path.{sym, ap, _∙_}
 use Rattle.fabric.specs.Cycle.{machine, stepOf, refusedCycle}
-use Rattle.fabric.proofs.States.{held}
-use Rattle.fabric.proofs.Calls.{answered, refused}
+use Rattle.states.proofs.States.{held}
+use Rattle.states.proofs.Calls.{answered, refused}
 use Rattle.engine.specs.Cycle.{unreported}
 use borrow.Author.Needs.{needs}
 use Rattle.engine.proofs.cycle.single_cycle.Statement.{statement}

@@ -1,5 +1,5 @@
 use mathlib.Core.Path.{_∙_}
-use Rattle.fabric.specs.State.{secondRow}
+use Rattle.states.specs.State.{secondRow}
 use Rattle.fabric.specs.Cycle.{machine, rowsAfter}
 use Rattle.engine.proofs.Control.{next-state}
 use Rattle.engine.proofs.Cycles.{parts-of}

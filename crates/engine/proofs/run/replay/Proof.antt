@@ -1,5 +1,5 @@
 use mathlib.Core.Path.{sym, _∙_}
-use Rattle.fabric.proofs.States.{held}
+use Rattle.states.proofs.States.{held}
 use Rattle.fabric.specs.Cycle.{machine}
 use Rattle.capture.proofs.Endings.{ends-refused, ends-done}
 use Rattle.capture.proofs.Fates.{doable}

@@ -1,6 +1,6 @@
 use mathlib.Core.Path.{_∙_}
 use Rattle.fabric.specs.Cycle.{machine, stepOf, refusedCycle}
-use Rattle.fabric.proofs.Calls.{answered, refused}
+use Rattle.states.proofs.Calls.{answered, refused}
 use borrow.Author.Needs.{needs}
 use Rattle.fabric.proofs.cycle.single_cycle.Statement.{statement}
 use Rattle.fabric.proofs.cycle.single_cycle.Tie as tie

@@ -2,7 +2,7 @@ use mathlib.Core.List.{List, [], _∷_, _++_}
 use Prim.Native.Nat.{ℕ}
 use Rattle.routing.specs.Four.{four}
 use Rattle.routing.proofs.Equal.{two, row-of}
-use Rattle.fabric.specs.State.{holderAt}
+use Rattle.states.specs.State.{holderAt}
 use Rattle.image.specs.Image.{rowBytes}
 use borrow.Author.Needs.{needs}
 use Rattle.image.proofs.image.image_of.Statement.{statement}

@@ -1,7 +1,7 @@
 use mathlib.Core.Path.{ap}
 use Rattle.routing.specs.Port.{input}
 use Rattle.routing.proofs.Equal.{row-of}
-use Rattle.fabric.proofs.Equal.{state-of}
+use Rattle.states.proofs.Equal.{state-of}
 use borrow.Author.Needs.{needs}
 use Rattle.image.proofs.image.state_from.Statement.{statement}
 use Rattle.image.proofs.image.state_from.Tie as tie

@@ -4,7 +4,7 @@ use lib.ListN.{length}
 use lib.Seq.{sets}
 use Rattle.fabric.specs.Cycle.{machine}
 use Rattle.saved.specs.Saved.{savedBytes}
-use Rattle.fabric.proofs.States.{held}
+use Rattle.states.proofs.States.{held}
 use Rattle.saved.proofs.Keeps.{not-written, written, save-done}
 use borrow.Author.Needs.{needs}
 use Rattle.saved.proofs.saving.save.Statement.{statement}

@@ -1,9 +1,9 @@
 use mathlib.Core.Path.{ap, sym, _∙_}
 use mathlib.Core.Bool.{Bool}
 use borrow.Author.Tests.{lt-ltb, le-ltb}
-use Rattle.fabric.specs.State.{_when_otherwise_}
+use Rattle.states.specs.State.{_when_otherwise_}
 use Rattle.saved.specs.Saved.{saveRefusal}
-use Rattle.fabric.proofs.Calls.{by-first, by-later}
+use Rattle.states.proofs.Calls.{by-first, by-later}
 use borrow.Author.Needs.{needs}
 use Rattle.saved.proofs.saving.save_refusal.Statement.{statement}
 use Rattle.saved.proofs.saving.save_refusal.Tie as tie

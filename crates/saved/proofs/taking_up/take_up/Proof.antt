@@ -1,7 +1,7 @@
 use mathlib.Core.Path.{sym, _∙_}
 use native.Mathlib.Omega.{arith}
 use Rattle.saved.specs.Saved.{notTakenUp}
-use Rattle.fabric.proofs.Calls.{answered, refused}
+use Rattle.states.proofs.Calls.{answered, refused}
 use Rattle.saved.proofs.Keeps.{take-up-done}
 use borrow.Author.Needs.{needs}
 use Rattle.saved.proofs.taking_up.take_up.Statement.{statement}

@@ -1,5 +1,5 @@
 use mathlib.Core.Path.{ap, _∙_}
-use Rattle.fabric.specs.State.{stateRefusal}
+use Rattle.states.specs.State.{stateRefusal}
 use Rattle.saved.proofs.Keeps.{number-5, number-6, number-7-8}
 use borrow.Author.Needs.{needs}
 use Rattle.saved.proofs.taking_up.take_up_refusal.Statement.{statement}

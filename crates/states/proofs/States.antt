@@ -5,8 +5,8 @@ use Prim.Native.Nat.{ℕ, _<_}
 use native.Mathlib.Omega.{arith}
 use lib.Dec.{ltb}
 use borrow.Author.Tests.{ltb-false}
-use Rattle.fabric.specs.declared.state.State.{State}
-use Rattle.fabric.specs.State.{holderAt, Held, holderAbove, openWhileWaiting, heldTwice, stateRefusal}
+use Rattle.states.specs.declared.state.State.{State}
+use Rattle.states.specs.State.{holderAt, Held, holderAbove, openWhileWaiting, heldTwice, stateRefusal}
 use Rattle.routing.proofs.Fours.{no-at}
 
 module _ (s : State) where

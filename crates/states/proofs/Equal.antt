@@ -3,7 +3,7 @@ use mathlib.Core.Bool.{Bool}
 use mathlib.Core.Path.{_≡_}
 use mathlib.Core.List.{List}
 use Rattle.routing.specs.declared.port.Input.{Input}
-use Rattle.fabric.specs.declared.state.State.{State}
+use Rattle.states.specs.declared.state.State.{State}
 
 abbrev state : Bool → List Bool → List Input → State
 state w s h = record { waiting = w; shut = s; holders = h }

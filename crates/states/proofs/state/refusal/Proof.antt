@@ -1,8 +1,8 @@
 use mathlib.Core.Path.{sym, _∙_}
-use Rattle.fabric.proofs.States.{refused-14, refused-7, refused-8, accepted}
+use Rattle.states.proofs.States.{refused-14, refused-7, refused-8, accepted}
 use borrow.Author.Needs.{needs}
-use Rattle.fabric.proofs.state.refusal.Statement.{statement}
-use Rattle.fabric.proofs.state.refusal.Tie as tie
+use Rattle.states.proofs.state.refusal.Statement.{statement}
+use Rattle.states.proofs.state.refusal.Tie as tie
 
 returns : tie.Need-returns
 returns c = refused-14 _ (sym (c .before .holder-above .ensures) ∙ c .if1 .taken)

@@ -1,7 +1,7 @@
 // The state of the machine, reset, and the refusals of a state that is handed in.
 ghost use mathlib.Core.Path.{_≡_};
 ghost use mathlib.Core.List.{[], _∷_};
-ghost use Rattle.fabric.specs.State.{resetState, resetRows, holderAbove, openWhileWaiting, heldTwice, stateRefusal};
+ghost use Rattle.states.specs.State.{resetState, resetRows, holderAbove, openWhileWaiting, heldTwice, stateRefusal};
 use routing::Input;
 
 pub struct State {

@@ -5,7 +5,7 @@ use Prim.Native.Nat.{ℕ}
 use native.Mathlib.Omega.{arith}
 use lib.Dec.{eqb}
 use borrow.Author.Tests.{eq-eqb, ne-eqb, eqb-true}
-use Rattle.fabric.specs.State.{_when_otherwise_, _orElse_}
+use Rattle.states.specs.State.{_when_otherwise_, _orElse_}
 
 module _ {A : Type 0} {number n : ℕ} (is : n ≡ number) (x : A) where
   pub answered : (y : A) → n ≡ 0 → x ≡ cond (eqb number 0) x y
