@@ -22,4 +22,4 @@ hex b = digitOf (b / 16) ∷ digitOf (b % 16) ∷ []
 
 unfoldable pub hexes : List ℕ → List ℕ
 hexes [] = []
-hexes (b ∷ bytes) = digitOf (b / 16) ∷ digitOf (b % 16) ∷ hexes bytes
+hexes (b ∷ bytes) = hex b ++ hexes bytes
