@@ -5,6 +5,7 @@
 mod lines;
 mod refusal;
 
+pub use lines::put_heading;
 pub use lines::put_line;
 pub use lines::put_listing;
 pub use refusal::put_refusal;

@@ -1,7 +1,7 @@
 // The heading and a line for each cycle.
 ghost use Rattle.text.specs.Page.{page, Wrote};
 ghost use Rattle.capture.specs.Capture.{records};
-ghost use Rattle.listing.specs.Listing.{columns, line, linesFrom, listing};
+ghost use Rattle.listing.specs.Listing.{heading, columns, line, linesFrom, listing};
 
 fn put_columns(out: &mut [u8], place: usize, bytes: &[u8]) -> usize
     ensures { λ r. ⌜ Wrote (page (now (out .entry)) place) (columns (now (bytes .entry))) (page (now (out .exit)) r) ⌝ }
@@ -38,10 +38,16 @@ fn put_lines(out: &mut [u8], place: usize, answers: &[u8]) -> usize
     next
 }
 
+pub fn put_heading(out: &mut [u8], place: usize) -> usize
+    ensures { λ r. ⌜ Wrote (page (now (out .entry)) place) heading (page (now (out .exit)) r) ⌝ }
+{
+    text::put_text(out, place, b"cycle ack h0 h1 h2 h3\n")
+}
+
 // The listing of the answers to all cycles from 0 on.
 pub fn put_listing(out: &mut [u8], place: usize, answers: &[u8]) -> usize
     ensures { λ r. ⌜ Wrote (page (now (out .entry)) place) (listing (now (answers .entry))) (page (now (out .exit)) r) ⌝ }
 {
-    let next = text::put_text(&mut *out, place, b"cycle ack h0 h1 h2 h3\n");
+    let next = put_heading(&mut *out, place);
     put_lines(out, next, answers)
 }
