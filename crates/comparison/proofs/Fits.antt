@@ -13,6 +13,7 @@ use Rattle.text.specs.Digits.{decimalIn, decimal}
 use Rattle.text.proofs.Decimals.{few-digits}
 use Rattle.text.proofs.Room.{all-there}
 use Rattle.states.specs.State.{resetState, stateRefusal}
+use Rattle.fabric.specs.Run.{resetMachine}
 use Rattle.records.proofs.Answered.{answers-length}
 use Rattle.capture.specs.Capture.{records, inputsIn}
 use Rattle.capture.specs.Refusal.{limit, earlyRefusal, firstBad}
@@ -22,7 +23,7 @@ use Rattle.listing.specs.Listing.{listing}
 use Rattle.listing.specs.Refusal.{refusalLine}
 use Rattle.listing.proofs.Sizes.{listing-size}
 use Rattle.comparison.specs.Verdict.{outcomeText}
-use Rattle.comparison.specs.Both.{resetMachine, zeros, printed}
+use Rattle.comparison.specs.Both.{zeros, printed}
 use Rattle.comparison.proofs.Whole.{printed-by, bytes-left, too-many}
 
 module _ (capture : List ℕ) where

@@ -12,10 +12,11 @@ use Rattle.text.specs.Page.{Page, Wrote}
 use Rattle.text.proofs.Lists.{take-replicate, take-min}
 use Rattle.text.proofs.Pages.{spelt}
 use Rattle.routing.proofs.Equal.{two}
+use Rattle.fabric.specs.Run.{resetMachine}
 use Rattle.capture.specs.Replay.{replayOf, replayWrites}
 use Rattle.comparison.specs.Agreement.{isSame}
 use Rattle.comparison.specs.Verdict.{outcomeText, verdictText}
-use Rattle.comparison.specs.Both.{resetMachine, zeros, bothDiffer, bothText, keptLength, kept, printed}
+use Rattle.comparison.specs.Both.{zeros, bothDiffer, bothText, keptLength, kept, printed}
 use Rattle.comparison.proofs.Agreements.{agrees-with-itself}
 
 pub kept-long : (n : ℕ) → 65536 < n → 65530 + n % 5 ≡ keptLength n

@@ -13,13 +13,13 @@ use Rattle.routing.proofs.Equal.{two}
 use Rattle.states.specs.declared.state.State.{State}
 use Rattle.states.specs.State.{resetState, resetRows}
 use Rattle.fabric.specs.Cycle.{Machine, machine}
+use Rattle.fabric.specs.Run.{resetMachine}
 use Rattle.capture.specs.declared.run.Replayed.{Replayed}
 use Rattle.capture.specs.Replay.{replayOf, replayWrites}
 use Rattle.listing.specs.Listing.{listing}
 use Rattle.listing.specs.Refusal.{refusalLine}
 use Rattle.comparison.specs.Agreement.{isSame, disagreementOf}
 use Rattle.comparison.specs.Verdict.{outcomeText, differText, verdictText}
-use Rattle.comparison.specs.Both.{resetMachine}
 
 module _ (p : Replayed) (answers : List ℕ) where
   pub done-text : p .number ≡ 0 → listing answers ≡ outcomeText p answers

@@ -10,6 +10,7 @@ use lib.Seq.{take-all, length-take-le}
 use borrow.Author.Tests.{ltb-true, ltb-false, eqb-true, eqb-false}
 use Rattle.routing.proofs.Equal.{two}
 use Rattle.states.specs.State.{resetState, stateRefusal}
+use Rattle.fabric.specs.Run.{resetMachine}
 use Rattle.capture.specs.declared.refusal.Judged.{Judged}
 use Rattle.capture.specs.Capture.{records}
 use Rattle.capture.specs.Refusal.{limit, judged}
@@ -17,7 +18,7 @@ use Rattle.capture.specs.Replay.{replayedAs, writtenAs}
 use Rattle.capture.proofs.Fates.{number-1, number-4, refused-early}
 use Rattle.listing.specs.Refusal.{refusalLine}
 use Rattle.comparison.specs.Verdict.{outcomeText}
-use Rattle.comparison.specs.Both.{resetMachine, zeros, keptLength, kept, printed}
+use Rattle.comparison.specs.Both.{zeros, keptLength, kept, printed}
 use Rattle.comparison.proofs.Inputs.{kept-long, kept-whole}
 
 module _ (capture : List ℕ) where

@@ -4,15 +4,11 @@ use mathlib.Core.List.{List}
 use Prim.Native.Nat.{ℕ, _+_, _%_}
 use lib.Dec.{ltb}
 use lib.ListN.{length, take, replicate}
-use Rattle.states.specs.State.{resetState, resetRows}
-use Rattle.fabric.specs.Cycle.{Machine, machine}
+use Rattle.fabric.specs.Run.{resetMachine}
 use Rattle.capture.specs.Replay.{replayOf, replayWrites}
 use Rattle.text.specs.declared.difference.Difference.{Difference}
 use Rattle.comparison.specs.Agreement.{disagreementOf}
 use Rattle.comparison.specs.Verdict.{outcomeText, verdictText}
-
-abbrev pub resetMachine : Machine
-resetMachine = machine resetState resetRows
 
 -- both engines into a buffer each: where they differ, and what is to be said of it
 abbrev pub bothDiffer : List ℕ → List ℕ → List ℕ → Difference

@@ -22,7 +22,8 @@ use Rattle.capture.proofs.Records.{record-there}
 use Rattle.capture.proofs.Bads.{all-good, good-at}
 use Rattle.capture.proofs.Fates.{doable, is-done}
 use Rattle.promises.specs.Joined.{ReplayIsRun, ReplayRefused, EmptyReplay, JoinedReplay, JoinedDone}
-use Rattle.promises.proofs.Accepting.{run-accepted}
+use Rattle.runs.specs.Run.{runFrom}
+use Rattle.runs.proofs.Accepting.{run-accepted}
 
 pub replay-is-run : ReplayIsRun
 replay-is-run m capture buffer e =
@@ -130,6 +131,7 @@ module _ (a b : List ℕ) (whole : length a % 5 ≡ 0) where
       either j hi false e = in-second j hi (ltb-false _ _ e)
 
 pub joined-replay : JoinedReplay
+unfolding runOf
 joined-replay m a b room whole e =
     let d = doable (m .state) (a ++ b) room e in
     let l = length-append a b in
@@ -140,7 +142,7 @@ joined-replay m a b room whole e =
       second-done =
           is-done (endOf m a .state) b room
           (record {
-            accepted = run-accepted m (inputsIn a) (records a) (d .accepted);
+            accepted = run-accepted (runFrom m (inputsIn a)) (d .accepted) (records a);
             whole = omega (arith, d .whole);
             few = omega (arith, d .few);
             fits = omega (arith, d .fits);

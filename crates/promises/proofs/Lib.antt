@@ -1,5 +1,7 @@
 pub mod Settling
-pub mod Accepting
 pub mod Recording
 pub mod Keeping
 pub mod Joining
+pub mod Answering
+pub mod Gating
+pub mod Working

@@ -9,7 +9,7 @@ use Rattle.records.specs.Answers.{answersOf}
 use Rattle.capture.specs.declared.refusal.Judged.the-variants.{Refused, Done}
 use Rattle.capture.specs.Capture.{records, inputsIn}
 use Rattle.capture.specs.Refusal.{limit, judged}
-use Rattle.promises.specs.Accepted.{Accepted}
+use Rattle.runs.specs.Run.{Accepted}
 use Rattle.capture.specs.Replay.{endOf, answers, handedBack, replayOf, replayWrites}
 
 -- A replay that is done hands back the machine at the end of the run of its records, with number and index 0, and writes the

@@ -1,4 +1,6 @@
 pub mod Settled
-pub mod Accepted
 pub mod Kept
 pub mod Joined
+pub mod Answered
+pub mod Gates
+pub mod Worked

@@ -1,6 +1,6 @@
 -- What is said of each of four, and what is said of one of them. Assumes nothing.
-use mathlib.Core.Bool.{Bool, true, false, _&&_, _||_}
-use mathlib.Core.Path.{_≡_, refl}
+use mathlib.Core.Bool.{Bool, true, false, _&&_, _||_, true≢false}
+use mathlib.Core.Path.{_≡_, refl, sym, _∙_}
 use mathlib.Core.List.{[], _∷_}
 use Prim.Native.Nat.{ℕ, zero, suc, _<_}
 use native.Mathlib.Omega.{arith}
@@ -46,3 +46,11 @@ module _ (f : ℕ → Bool) where
 
   pub none-of : ((i : ℕ) → i < 4 → f i ≡ false) → some f ≡ false
   none-of h = rw (h 0 (omega arith), h 1 (omega arith), h 2 (omega arith), h 3 (omega arith))
+
+  -- a yes at one of the four is a yes of some
+  pub some-of : (i : ℕ) → i < 4 → f i ≡ true → some f ≡ true
+  some-of i h named = go (some f) refl
+    where
+      go : (b : Bool) → some f ≡ b → some f ≡ true
+      go true e = e
+      go false e = absurd (true≢false (sym named ∙ no-at e i h))

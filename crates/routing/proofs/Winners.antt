@@ -24,7 +24,7 @@ left a b c d p q r s =
 
 module _ (headers : List ℕ) (o : ℕ) where
   -- who remains asks
-  remaining-asks : (i : ℕ) → remains headers o i ≡ true → asker headers o i ≡ true
+  pub remaining-asks : (i : ℕ) → remains headers o i ≡ true → asker headers o i ≡ true
   remaining-asks i e = go (askedHigh headers o) e
     where
       go : (b : Bool) → cond b (highAsker headers o i) (asker headers o i) ≡ true → asker headers o i ≡ true

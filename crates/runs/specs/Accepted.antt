@@ -1,14 +1,9 @@
 -- Accepted states: a call to which a state is handed accepts it, or refuses it by 14, 7 or 8.
-use mathlib.Core.Path.{_≡_}
 use Prim.Native.Nat.{ℕ}
-use Rattle.states.specs.declared.state.State.{State}
 use Rattle.fabric.specs.declared.cycle.Inputs.{Inputs}
-use Rattle.states.specs.State.{resetState, stateRefusal}
+use Rattle.states.specs.State.{resetState}
 use Rattle.fabric.specs.Cycle.{Machine, stepped}
-use Rattle.fabric.specs.Run.{runOf}
-
-abbrev pub Accepted : State → Type 0
-Accepted s = stateRefusal s ≡ 0
+use Rattle.runs.specs.Run.{Run, Accepted, FromAccepted}
 
 -- Reset is accepted.
 abbrev pub ResetAccepted : Type 0
@@ -20,4 +15,4 @@ CycleAccepted = (m : Machine) (i : Inputs) → Accepted (m .state) → Accepted 
 
 -- So does every run.
 abbrev pub RunAccepted : Type 0
-RunAccepted = (m : Machine) (ins : ℕ → Inputs) (k : ℕ) → Accepted (m .state) → Accepted (runOf m ins k .state)
+RunAccepted = (r : Run) → FromAccepted r → (t : ℕ) → Accepted (r .at t .state)

@@ -1,0 +1,8 @@
+-- The worked table, computed. Assumes nothing.
+use Rattle.routing.specs.Turn.{inTurn}
+use Rattle.gates.specs.Word.{rightCount, wrong}
+use Rattle.promises.specs.Worked.{WorkedTable}
+
+pub worked-table : WorkedTable
+unfolding inTurn rightCount wrong
+worked-table = tt

@@ -1,0 +1,172 @@
+-- Well-formed frames, of any run. Assumes nothing.
+use mathlib.Core.Bool.{true, false}
+use mathlib.Core.Path.{_≡_, refl, sym, ap, subst, _∙_}
+use mathlib.Core.Logic.{_⊎_, inl, inr}
+use mathlib.Core.List.{List}
+use Prim.Native.Nat.{ℕ, suc, _+_, _-_, _<_, _≤_}
+use native.Mathlib.Omega.{arith}
+use native.Mathlib.Nat.{eq-or-lt-of-le}
+use lib.ListN.{getD}
+use Rattle.routing.specs.Header.{someActive, asks}
+use Rattle.routing.specs.Route.{asked}
+use Rattle.runs.specs.Run.{Run, NoFrameStartAt, ack, holder, Shut, Open, headersAt}
+use Rattle.runs.specs.Routing.{RoutingAt, NoRoutingAt, AskedFor, Wins}
+use Rattle.runs.specs.Frame.{ActiveFrame, FromWon, ActiveFrames, InactiveFrame, InactiveFrames}
+use Rattle.runs.proofs.Cycles.{waits-started, runs-routed, holder-kept, holder-unasked, shut-started, shut-unasked, open-asked, second-two}
+use Rattle.runs.proofs.Askers.{yes-or-no, not-both, asked-for, is-asked, not-asked}
+use Rattle.runs.proofs.Stretches.{head-shut, head-open, GivenBy, ack-none, ack-from, ack-to, running-no-routing, quiet-no-routing, Same, stretch}
+
+-- what holds in all cycles up to e, and in the next
+up-to : (P : ℕ → Type 0) (e : ℕ) → P (suc e) → (t : ℕ) → (t ≤ e → P t) → t ≤ e + 1 → P t
+up-to P e last t p q = go (eq-or-lt-of-le q)
+  where
+    go : (t ≡ e + 1) ⊎ (t < e + 1) → P t
+    go (inl same) = let f : suc e ≡ t = omega arith in subst P f last
+    go (inr less) = p (omega arith)
+
+-- ---- inactive
+
+module _ (r : Run) (ts te : ℕ) (a : InactiveFrame r ts te) where
+  no-routing : (t : ℕ) → ts < t → t < te + 2 → NoRoutingAt r t
+  no-routing = quiet-no-routing r ts te (a .quiet)
+
+  same : (t : ℕ) → suc ts ≤ t → t ≤ te → Same r (suc ts) t
+  same = stretch r (suc ts) te (a .frame .none-between) (λ k l h _. no-routing k l (omega arith))
+
+  shut : (t o : ℕ) → o < 4 → suc ts ≤ t → t ≤ te + 1 → Shut r t o
+  shut t o l p =
+      up-to (λ (k : ℕ). Shut r k o) te (shut-started r te o l (a .frame .next)) t
+      (λ q. same t p q .shut o l ∙ shut-started r ts o l (a .frame .starts))
+
+  held : (t o : ℕ) → o < 4 → suc ts ≤ t → t ≤ te + 1 → holder r t o ≡ holder r (suc ts) o
+  held t o l p =
+      let n = a .frame .later in
+      up-to (λ (k : ℕ). holder r k o ≡ holder r (suc ts) o) te (holder-kept r te o l (no-routing te n (omega arith)) ∙ same te n (omega arith) .held o l) t
+      (λ q. same t p q .held o l)
+
+next-is : (r : Run) (t o : ℕ) → holder r (suc t) o ≡ holder r (t + 1) o
+next-is r t o = let e : suc t ≡ t + 1 = omega arith in ap (λ (k : ℕ). holder r k o) e
+
+pub inactive-frames : InactiveFrames
+inactive-frames r ts te a = record {
+  heads = λ t o l p q. head-shut r t (t - 2) o l (omega arith) (shut r ts te a (t - 2) o l (omega arith) (omega arith));
+  acks = λ t i p q. ack-none r t i (λ o l. shut r ts te a t o l (omega arith) (omega arith));
+  holders = λ t o l p q. held r ts te a t o l (omega arith) q ∙ next-is r ts o;
+}
+
+-- ---- active
+
+module _ (r : Run) (ts th te : ℕ) (a : ActiveFrame r ts th te) where
+  -- the cycle of the routing
+  abbrev tr : ℕ
+  tr = th + 2
+
+  ordered : suc ts ≤ tr
+  ordered = let n = a .late in omega arith
+
+  waiting-same : (t : ℕ) → suc ts ≤ t → t ≤ tr → Same r (suc ts) t
+  waiting-same =
+      stretch r (suc ts) tr (λ k l h. let n = a .long in a .frame .none-between k l (omega arith)) (λ k l h _. quiet-no-routing r ts th (a .quiet) k l h)
+
+  waiting-shut : (t o : ℕ) → o < 4 → suc ts ≤ t → t ≤ tr → Shut r t o
+  waiting-shut t o l p q = waiting-same t p q .shut o l ∙ shut-started r ts o l (a .frame .starts)
+
+  no-start : (t : ℕ) → tr ≤ t → t < te → NoFrameStartAt r t
+  no-start t p q = let n = a .late in a .frame .none-between t (omega arith) q
+
+  no-start-then : NoFrameStartAt r tr
+  no-start-then = let n = a .long in no-start tr (omega arith) (omega arith)
+
+  headers-are : headersAt r tr ≡ r .ins th .bytes
+  headers-are = let e : tr ≡ suc (suc th) = omega arith in ap (headersAt r) e ∙ second-two r th
+
+  happens : RoutingAt r tr
+  happens =
+      let waits = waiting-same tr ordered (omega arith) .phase ∙ waits-started r ts (a .frame .starts) in
+      rw waits (ap someActive headers-are ∙ a .header)
+
+  -- from the routing to the next frame start the machine runs
+  running-same : (t : ℕ) → suc tr ≤ t → t ≤ te → Same r (suc tr) t
+  running-same =
+      stretch r (suc tr) te (λ k l h. no-start k (omega arith) h) (λ k l h s. running-no-routing r k (s .phase ∙ runs-routed r tr no-start-then happens))
+
+  unasked-shut : (o : ℕ) → o < 4 → (AskedFor r tr o → ⊥) → Shut r (suc tr) o
+  unasked-shut o l n = shut-unasked r tr o l no-start-then happens (not-asked r tr o n) ∙ waiting-shut tr o l ordered (omega arith)
+
+  asked-open : (o : ℕ) → o < 4 → AskedFor r tr o → Open r (suc tr) o
+  asked-open o l q = open-asked r tr o l no-start-then happens (is-asked r tr o q)
+
+  open-was-asked : (o : ℕ) → o < 4 → Open r (suc tr) o → AskedFor r tr o
+  open-was-asked o l e = go (yes-or-no (asked (headersAt r tr) o))
+    where
+      go : (asked (headersAt r tr) o ≡ true) ⊎ (asked (headersAt r tr) o ≡ false) → AskedFor r tr o
+      go (inl q) = asked-for r tr o q
+      go (inr z) = absurd (not-both (shut-unasked r tr o l no-start-then happens z ∙ waiting-shut tr o l ordered (omega arith)) e)
+
+  running-held : (t o : ℕ) → o < 4 → suc tr ≤ t → t ≤ te + 1 → holder r t o ≡ holder r (suc tr) o
+  running-held t o l p =
+      let n : suc tr ≤ te = let n = a .long in omega arith in
+      let s = running-same te n (omega arith) in
+      up-to (λ (k : ℕ). holder r k o ≡ holder r (suc tr) o) te
+      (holder-kept r te o l (running-no-routing r te (s .phase ∙ runs-routed r tr no-start-then happens)) ∙ s .held o l) t
+      (λ q. running-same t p q .held o l)
+
+  acks-from : (t i : ℕ) → th + 3 ≤ t → t ≤ te → ack r t i ≡ true → FromWon r th t i
+  acks-from t i p q e =
+      let s = running-same t (omega arith) q in
+      let g = ack-from r t i e in
+      record {
+        output = _;
+        is-output = g .is-output;
+        won = record {
+          routing = happens;
+          asked = open-was-asked _ (g .is-output) (sym (s .shut _ (g .is-output)) ∙ g .is-open);
+          new-holder = sym (s .held _ (g .is-output)) ∙ g .holds;
+        };
+        acknowledged = g .acknowledged;
+      }
+
+  acks-to : (t i : ℕ) → th + 3 ≤ t → t ≤ te → FromWon r th t i → ack r t i ≡ true
+  acks-to t i p q w =
+      let s = running-same t (omega arith) q in
+      let l = w .is-output in
+      ack-to r t i (w .output)
+      (record {
+        is-output = l;
+        is-open = s .shut (w .output) l ∙ asked-open (w .output) l (w .won .asked);
+        holds = s .held (w .output) l ∙ w .won .new-holder;
+        acknowledged = w .acknowledged;
+      })
+
+pub active-frames : ActiveFrames
+active-frames r ts th te a = record {
+  routing = record {
+    happens = happens r ts th te a;
+    headers = λ i o.
+        let e = ap (λ (row : List ℕ). asks o (getD row i 0)) (headers-are r ts th te a) in (λ x. sym e ∙ x, λ x. e ∙ x);
+  };
+  heads = record {
+    zero-first = λ t o l p q. head-shut r t (t - 2) o l (omega arith) (waiting-shut r ts th te a (t - 2) o l (omega arith) (omega arith));
+    winner's = λ t o w l p q k.
+        let s = running-same r ts th te a (t - 2) (omega arith) (omega arith) in
+        head-open r t (t - 2) o l (omega arith) (t - 4) (omega arith) (s .shut o l ∙ asked-open r ts th te a o l (k .asked))
+        ∙ ap (λ (i : ℕ). getD (r .ins (t - 4) .bytes) i 0) (s .held o l ∙ k .new-holder);
+    unasked = λ t o l p q n.
+        let s = running-same r ts th te a (t - 2) (omega arith) (omega arith) in
+        head-shut r t (t - 2) o l (omega arith) (s .shut o l ∙ unasked-shut r ts th te a o l n);
+    zero-last = λ o l. head-shut r (te + 3) (suc te) o l (omega arith) (shut-started r te o l (a .frame .next));
+  };
+  acks = record {
+    zero-first = λ t i p q. ack-none r t i (λ o l. waiting-shut r ts th te a t o l (omega arith) q);
+    from-won = λ t i p q. (acks-from r ts th te a t i p q, acks-to r ts th te a t i p q);
+  };
+  holders = record {
+    unchanged = λ t o l p q. waiting-same r ts th te a t (omega arith) q .held o l ∙ next-is r ts o;
+    winner = λ t o w l p q k. running-held r ts th te a t o l (omega arith) q ∙ k .new-holder;
+    unasked = λ t o l p q n.
+        running-held r ts th te a t o l (omega arith) q
+        ∙ holder-unasked r (th + 2) o l (happens r ts th te a) (not-asked r (th + 2) o n)
+        ∙ waiting-same r ts th te a (th + 2) (ordered r ts th te a) (omega arith) .held o l
+        ∙ next-is r ts o;
+  };
+}

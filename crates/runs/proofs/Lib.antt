@@ -1,0 +1,14 @@
+pub mod Cycles
+pub mod Askers
+pub mod Turning
+pub mod Accepting
+pub mod Opening
+pub mod Winning
+pub mod Reporting
+pub mod Holding
+pub mod Showing
+pub mod Routings
+pub mod Demand
+pub mod Stretches
+pub mod Frames
+pub mod Examples

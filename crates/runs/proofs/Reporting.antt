@@ -1,0 +1,147 @@
+-- The report says who won. Assumes nothing.
+use mathlib.Core.Bool.{Bool, true, false, _||_, true≢false}
+use mathlib.Core.Path.{_≡_, refl, sym, ap, _∙_}
+use mathlib.Core.Logic.{_⊎_, inl, inr}
+use mathlib.Core.List.{List}
+use Prim.Native.Nat.{ℕ, suc, _+_, _<_, _≤_}
+use native.Mathlib.Omega.{arith}
+use Rattle.routing.specs.declared.port.Input.{Input}
+use Rattle.routing.specs.declared.route.Outcome.{Outcome}
+use Rattle.routing.specs.declared.route.Outcome.the-variants.{Quiet, Won}
+use Rattle.routing.specs.declared.route.Outcomes.{Outcomes}
+use Rattle.routing.specs.declared.route.Report.{Report}
+use Rattle.routing.specs.declared.route.Report.the-variants.{NoRouting, Routing}
+use Rattle.routing.specs.Four.{some, bit, count}
+use Rattle.routing.specs.Header.{asker}
+use Rattle.routing.specs.Port.{input}
+use Rattle.routing.specs.Route.{asked, winner, turnedAway, decided, outcomes, reported}
+use Rattle.routing.proofs.Fours.{at-four}
+use Rattle.runs.specs.Run.{Run, holder, reportAt, headersAt}
+use Rattle.runs.specs.Routing.{routesAt, RoutingAt, NoRoutingAt, AskedFor, askers, Wins}
+use Rattle.runs.specs.Winning.{outcomeOf, Reports, Reporting}
+use Rattle.runs.proofs.Cycles.{holder-won}
+use Rattle.runs.proofs.Askers.{yes-or-no, not-both, asked-for, is-asked, not-asked, by-nobody}
+
+-- ---- what can be read off a report and an outcome
+
+abbrev isRouting : Report → Bool
+isRouting NoRouting = false
+isRouting (Routing x) = true
+
+abbrev outcomesIn : Report → Outcomes
+outcomesIn NoRouting = record { output0 = Quiet; output1 = Quiet; output2 = Quiet; output3 = Quiet }
+outcomesIn (Routing x) = x
+
+abbrev isWon : Outcome → Bool
+isWon Quiet = false
+isWon (Won w n) = true
+
+abbrev winnerIn : Outcome → ℕ
+winnerIn Quiet = 0
+winnerIn (Won w n) = w .0
+
+abbrev countIn : Outcome → ℕ
+countIn Quiet = 0
+countIn (Won w n) = n
+
+-- somebody who asks is counted
+count-some : (f : ℕ → Bool) → some f ≡ true → 1 ≤ count f
+count-some f e = go (f 0) (f 1) (f 2) (f 3) e
+  where
+    go : (a b c d : Bool) → (a || b || c || d) ≡ true → 1 ≤ bit a + bit b + bit c + bit d
+    go true b c d e = omega arith
+    go false true c d e = omega arith
+    go false false true d e = omega arith
+    go false false false true e = omega arith
+    go false false false false e = absurd (true≢false (sym e))
+
+module _ (r : Run) (t : ℕ) where
+  abbrev headers : List ℕ
+  headers = headersAt r t
+
+  abbrev made : Outcomes
+  made = outcomes (r .at t .state .holders) headers
+
+  routed : RoutingAt r t → reportAt r t ≡ Routing made
+  unfolding reported
+  routed n = rw n
+
+  none : NoRoutingAt r t → reportAt r t ≡ NoRouting
+  unfolding reported
+  none n = rw n
+
+  was-routed : {x : Outcomes} → reportAt r t ≡ Routing x → RoutingAt r t
+  was-routed e = go (yes-or-no (routesAt r t))
+    where
+      go : RoutingAt r t ⊎ NoRoutingAt r t → RoutingAt r t
+      go (inl n) = n
+      go (inr n) = absurd (not-both (ap isRouting e) (ap isRouting (none n)))
+
+  not-routed : reportAt r t ≡ NoRouting → NoRoutingAt r t
+  not-routed e = go (yes-or-no (routesAt r t))
+    where
+      go : RoutingAt r t ⊎ NoRoutingAt r t → NoRoutingAt r t
+      go (inl n) = absurd (not-both (ap isRouting (routed n)) (ap isRouting e))
+      go (inr n) = n
+
+  module _ (o : ℕ) (l : o < 4) where
+    outcome-is : outcomeOf made o ≡ decided headers o (holder r t o)
+    outcome-is = at-four (λ o. decided headers o (holder r t o)) Quiet o l
+
+    said : {x : Outcome} → Reports r t o x → decided headers o (holder r t o) ≡ x
+    said p = sym outcome-is ∙ ap (λ (y : Report). outcomeOf (outcomesIn y) o) (sym (routed (was-routed (p .routing))) ∙ p .routing) ∙ p .says
+
+    reports : {x : Outcome} → RoutingAt r t → decided headers o (holder r t o) ≡ x → Reports r t o x
+    reports n e = record { outcomes = made; routing = routed n; says = outcome-is ∙ e }
+
+    decided-won : asked headers o ≡ true → decided headers o (holder r t o) ≡ Won (input (winner headers o (holder r t o))) (turnedAway headers o)
+    unfolding decided
+    decided-won a = rw a
+
+    decided-quiet : asked headers o ≡ false → decided headers o (holder r t o) ≡ Quiet
+    unfolding decided
+    decided-quiet a = rw a
+
+    asked-if : {w : Input} {n : ℕ} → Reports r t o (Won w n) → asked headers o ≡ true
+    asked-if p = go (yes-or-no (asked headers o))
+      where
+        go : (asked headers o ≡ true) ⊎ (asked headers o ≡ false) → asked headers o ≡ true
+        go (inl a) = a
+        go (inr a) = absurd (not-both (ap isWon (said p)) (ap isWon (decided-quiet a)))
+
+    unasked-if : Reports r t o Quiet → asked headers o ≡ false
+    unasked-if p = go (yes-or-no (asked headers o))
+      where
+        go : (asked headers o ≡ true) ⊎ (asked headers o ≡ false) → asked headers o ≡ false
+        go (inl a) = absurd (not-both (ap isWon (decided-won a)) (ap isWon (said p)))
+        go (inr a) = a
+
+    module _ (i n : ℕ) where
+      won-then : Reports r t o (Won (input i) n) → Wins r t i o × (suc n ≡ askers r t o)
+      won-then p =
+          let a = asked-if p in
+          let h = was-routed (p .routing) in
+          let e = sym (decided-won a) ∙ said p in
+          let c = count-some (asker headers o) a in
+          let m : turnedAway headers o ≡ n = ap countIn e in
+          (record { routing = h; asked = asked-for r t o a; new-holder = holder-won r t o l h a ∙ ap winnerIn e }, omega arith)
+
+      then-won : Wins r t i o × (suc n ≡ askers r t o) → Reports r t o (Won (input i) n)
+      then-won p =
+          let w = p .0 in
+          let a = is-asked r t o (w .asked) in
+          let m : turnedAway headers o ≡ n = let e = p .1 in omega arith in
+          reports (w .routing)
+          (decided-won a
+          ∙ ap (λ (x : ℕ). Won (input x) (turnedAway headers o)) (sym (holder-won r t o l (w .routing) a) ∙ w .new-holder)
+          ∙ ap (λ (x : ℕ). Won (input i) x) m)
+
+pub reporting : (r : Run) → Reporting r
+reporting r = record {
+  won = λ t o i n l. (won-then r t o l i n, then-won r t o l i n);
+  quiet = λ t o l. (
+    λ p. (was-routed r t (p .routing), by-nobody r t o (unasked-if r t o l p)),
+    λ p. reports r t o l (p .0) (decided-quiet r t o l (not-asked r t o (p .1))),
+  );
+  none = λ t. (not-routed r t, none r t);
+}

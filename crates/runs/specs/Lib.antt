@@ -1,0 +1,11 @@
+pub mod Run
+pub mod Routing
+pub mod Accepted
+pub mod Opening
+pub mod Winning
+pub mod Holding
+pub mod Showing
+pub mod Routings
+pub mod Demand
+pub mod Frame
+pub mod Examples
