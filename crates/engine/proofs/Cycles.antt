@@ -4,12 +4,12 @@ use mathlib.Core.Path.{_≡_}
 use mathlib.Core.List.{List}
 use Prim.Native.Nat.{ℕ, _<_}
 use lib.Dec.{lit<}
-use lib.ListN.{getD}
 use Rattle.states.specs.declared.state.State.{State}
 use Rattle.fabric.specs.declared.cycle.Inputs.{Inputs}
 use Rattle.states.specs.State.{holderAt, Held, firstRow, secondRow, switchRow}
 use Rattle.fabric.specs.Cycle.{Machine, shown, stateAfter, rowsAfter, stepOf}
 use Rattle.fabric.proofs.Steps.{holder-below}
+use Rattle.records.specs.Record.{Bytes}
 use Rattle.engine.specs.declared.cycle.GateCycled.{GateCycled}
 use Rattle.engine.specs.Cycle.{gateStepOf, unreported}
 use Rattle.engine.proofs.Control.{next-state}
@@ -30,15 +30,11 @@ parts m i acks state switched = record {
 pub parts-of : (m : Machine) (i : Inputs) {a a' : List Bool} {s s' : State} {w w' : List ℕ} → a ≡ a' → s ≡ s' → w ≡ w' → parts m i a s w ≡ parts m i a' s' w'
 parts-of m i p q r = cc
 
--- each second latch is a byte
-abbrev pub SecondBytes : Machine → Type 0
-SecondBytes m = (i : ℕ) → i < 4 → getD (secondRow (m .rows)) i 0 < 256
-
-pub gates-are-rules : (m : Machine) (i : Inputs) → SecondBytes m → Held (m .state) → gateStepOf m i ≡ unreported (stepOf m i)
+pub gates-are-rules : (m : Machine) (i : Inputs) → Bytes (secondRow (m .rows)) → Held (m .state) → gateStepOf m i ≡ unreported (stepOf m i)
 unfolding rowsAfter
 gates-are-rules m i bytes held =
     parts-of m i (acks-made (m .state) held (i .acks)) (next-state (m .state) (secondRow (m .rows)) (i .frame) held)
-    (switch-made (m .state) held (secondRow (m .rows)) bytes)
+    (switch-made (m .state) held (secondRow (m .rows)) (λ h _. bytes h))
 
 -- the next state's holders are inputs' numbers again
 pub held-after : (s : State) (headers : List ℕ) (start : Bool) → Held s → Held (stateAfter s headers start)

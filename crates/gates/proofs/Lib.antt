@@ -4,4 +4,3 @@ pub mod Limits
 pub mod Loops
 pub mod Meaning
 pub mod Values
-pub mod Words

@@ -14,10 +14,12 @@ use Rattle.routing.specs.Four.{four, bit, bitAt}
 use Rattle.routing.proofs.Equal.{row-of}
 use Rattle.routing.proofs.Fours.{at-four}
 use Rattle.routing.proofs.Masks.{in-mask, bit-le}
-use Rattle.states.specs.State.{shutAt}
+use Rattle.states.specs.State.{stateRefusal}
+use Rattle.states.proofs.Calls.{answered}
 use Rattle.states.proofs.States.{held-at}
 use Rattle.fabric.specs.declared.cycle.Inputs.{Inputs}
-use Rattle.fabric.specs.Cycle.{Machine, shown, acked}
+use Rattle.fabric.specs.declared.cycle.Cycled.{Cycled}
+use Rattle.fabric.specs.Cycle.{Machine, shown, acked, stepOf, cycleOf}
 use Rattle.fabric.specs.Run.{resetMachine, runOf}
 use Rattle.records.specs.Record.{byteAt, flagAt, inputsFrom}
 use Rattle.records.specs.Answers.{answerOf, answersOf}
@@ -29,9 +31,9 @@ use Rattle.capture.specs.Replay.{replayWrites}
 use Rattle.capture.proofs.Records.{record-there}
 use Rattle.runs.specs.Run.{sent, holder}
 use Rattle.runs.specs.Showing.{before, shutTwoBefore, holderTwoBefore}
-use Rattle.runs.proofs.Accepting.{run-accepted, reset-accepted}
+use Rattle.runs.proofs.Accepting.{cycle-accepted, run-accepted, reset-accepted}
 use Rattle.runs.proofs.Showing.{showing}
-use Rattle.promises.specs.Answered.{sentIn, replayRun, RecordsAreCycles, HeadBytes}
+use Rattle.promises.specs.Answered.{sentIn, replayRun, RecordsAreCycles, SingleCycles, HeadBytes}
 use Rattle.promises.proofs.Joining.{replay-is-run}
 
 -- byte j of answer record k, in the answers of n cycles
@@ -113,6 +115,10 @@ records-are-cycles m capture buffer e k h =
           ∙ written m capture buffer e k h (suc o) (omega arith)
           ∙ at-four (byteAt (shown now)) 0 o l;
     }
+
+pub single-cycles : SingleCycles
+single-cycles m i ok =
+    let e : cycleOf m i ≡ stepOf m i = sym (answered refl (stepOf m i) _ ok) in (e, ap (λ (c : Cycled). stateRefusal (c .state)) e ∙ cycle-accepted m i ok)
 
 -- what was sent four records before, if there were as many
 four-before : (m : Machine) (capture buffer : List ℕ) → judged (m .state) capture (length buffer) ≡ Done → (k i : ℕ) → k < records capture → i < 4

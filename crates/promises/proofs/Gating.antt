@@ -6,12 +6,12 @@ use Rattle.states.specs.State.{firstRow, secondRow}
 use Rattle.states.proofs.States.{held}
 use Rattle.fabric.specs.declared.cycle.Inputs.{Inputs}
 use Rattle.fabric.specs.Cycle.{Machine, machine, rowsAfter, stepped}
+use Rattle.records.specs.Record.{Bytes}
 use Rattle.engine.specs.declared.cycle.GateCycled.{GateCycled}
 use Rattle.engine.proofs.Cycles.{gates-are-rules}
 use Rattle.runs.specs.Run.{Run, Accepted}
 use Rattle.runs.proofs.Accepting.{cycle-accepted}
 use Rattle.runs.proofs.Demand.{demand-3}
-use Rattle.promises.specs.Kept.{Bytes}
 use Rattle.promises.specs.Gates.{gateStepped, GateRun, OfBytes, GatesByRules, GatesDemandThree}
 
 record Fit (m : Machine) : Type 0 where
@@ -24,7 +24,7 @@ left c = machine (c .state) (c .first ∷ c .second ∷ c .switched ∷ c .heads
 
 same-step : (m : Machine) (i : Inputs) → Fit m → gateStepped m i ≡ stepped m i
 unfolding rowsAfter
-same-step m i f = ap left (gates-are-rules m i (λ k _. f .second k) (held (m .state) (f .accepted)))
+same-step m i f = ap left (gates-are-rules m i (f .second) (held (m .state) (f .accepted)))
 
 next-fit : (m : Machine) (i : Inputs) → Bytes (i .bytes) → Fit m → Fit (stepped m i)
 unfolding rowsAfter

@@ -6,14 +6,15 @@ use mathlib.Core.List.{List}
 use Prim.Native.Nat.{ℕ, _+_, _*_, _<_}
 use lib.ListN.{length, getD}
 use Rattle.routing.specs.Four.{bitAt}
-use Rattle.fabric.specs.Cycle.{Machine}
+use Rattle.fabric.specs.declared.cycle.Inputs.{Inputs}
+use Rattle.fabric.specs.Cycle.{Machine, stepOf, cycleOf}
 use Rattle.fabric.specs.Run.{resetMachine}
 use Rattle.records.specs.Record.{byteAt}
 use Rattle.capture.specs.declared.refusal.Judged.the-variants.{Done}
 use Rattle.capture.specs.Capture.{records, inputsIn}
 use Rattle.capture.specs.Refusal.{judged}
 use Rattle.capture.specs.Replay.{replayWrites}
-use Rattle.runs.specs.Run.{Run, runFrom, sent, head, ack}
+use Rattle.runs.specs.Run.{Run, runFrom, Accepted, sent, head, ack}
 use Rattle.runs.specs.Showing.{before, shutTwoBefore, holderTwoBefore}
 
 -- what stands in record k of a capture: the frame start, output o's acknowledgement, input i's byte
@@ -50,6 +51,10 @@ abbrev pub RecordsAreCycles : Type 0
 RecordsAreCycles =
     (m : Machine) (capture buffer : List ℕ) → judged (m .state) capture (length buffer) ≡ Done
     → (k : ℕ) → k < records capture → RecordIsCycle m capture buffer k
+
+-- A single cycle of an accepted state is a cycle of a run: it answers what the rules say, and leaves the next machine, again accepted.
+abbrev pub SingleCycles : Type 0
+SingleCycles = (m : Machine) (i : Inputs) → Accepted (m .state) → (cycleOf m i ≡ stepOf m i) × Accepted (cycleOf m i .state)
 
 -- The byte of head o in answer record k, of a replay from reset: 0 if the output was shut two records before, and otherwise the byte that
 -- the holder of that record sent four records before. Records before the first count as zeros, with all outputs shut.

@@ -6,10 +6,10 @@ use Rattle.states.specs.State.{firstRow, secondRow}
 use Rattle.fabric.specs.declared.cycle.Inputs.{Inputs}
 use Rattle.fabric.specs.Cycle.{Machine, machine}
 use Rattle.fabric.specs.Run.{resetMachine}
+use Rattle.records.specs.Record.{Bytes}
 use Rattle.engine.specs.Cycle.{gateStepOf}
 use Rattle.runs.specs.Run.{Run, Accepted}
 use Rattle.runs.specs.Demand.{Demand}
-use Rattle.promises.specs.Kept.{Bytes}
 
 -- the machine that a cycle by gates leaves, over the meaning of the gate words
 abbrev pub gateStepped : Machine → Inputs → Machine

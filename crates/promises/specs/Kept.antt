@@ -8,7 +8,7 @@ use Rattle.fabric.specs.declared.cycle.Inputs.{Inputs}
 use Rattle.states.specs.State.{firstRow, secondRow, switchRow, headRow}
 use Rattle.fabric.specs.Cycle.{Machine, machine}
 use Rattle.saved.specs.declared.taking_up.TakenUp.{TakenUp}
-use Rattle.records.specs.Record.{inputsFrom, recordOf, spareSet, answerBytes, answerFrom}
+use Rattle.records.specs.Record.{Bytes, inputsFrom, recordOf, spareSet, answerBytes, answerFrom}
 use Rattle.saved.specs.Saved.{saveRefusal, saveWrites, takeUpRefusal, takeUpOf}
 
 -- Four flags, four holders and four rows of four, as every state and every array of rows of the code has them: the logic's lists
@@ -20,10 +20,6 @@ pub record FourOfEach (m : Machine) : Type 0 where
   pub second : length (secondRow (m .rows)) ≡ 4
   pub switched : length (switchRow (m .rows)) ≡ 4
   pub heads : length (headRow (m .rows)) ≡ 4
-
--- each number is a byte, as in every slice of the code
-abbrev pub Bytes : List ℕ → Type 0
-Bytes l = (k : ℕ) → getD l k 0 < 256
 
 -- what taking up a machine's bytes should answer, and the machine that an answer of taking up holds
 abbrev pub takenUpAs : Machine → TakenUp

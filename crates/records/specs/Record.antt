@@ -1,7 +1,7 @@
 -- The packed records: a capture record brings a cycle's inputs, an answer record takes its answer.
 use mathlib.Core.Bool.{Bool, false, not}
 use mathlib.Core.List.{List, [], _∷_}
-use Prim.Native.Nat.{ℕ, _+_, _*_, _/_, _%_}
+use Prim.Native.Nat.{ℕ, _+_, _*_, _/_, _%_, _<_}
 use lib.Dec.{eqb}
 use lib.ListN.{getD}
 use Rattle.fabric.specs.declared.cycle.Inputs.{Inputs}
@@ -10,6 +10,10 @@ use Rattle.routing.specs.Four.{four, bit, bitAt, mask}
 
 abbrev pub byteAt : List ℕ → ℕ → ℕ
 byteAt l n = getD l n 0
+
+-- each number of a list is a byte, as in every slice of the code
+abbrev pub Bytes : List ℕ → Type 0
+Bytes l = (k : ℕ) → byteAt l k < 256
 
 abbrev pub flagAt : List Bool → ℕ → Bool
 flagAt l n = getD l n false

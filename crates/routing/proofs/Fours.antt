@@ -27,6 +27,13 @@ pub and-right : (a b : Bool) → (a && b) ≡ true → b ≡ true
 and-right true b e = e
 and-right false b e = cc
 
+pub and-no-left : (a b : Bool) → a ≡ false → (a && b) ≡ false
+and-no-left a b e = rw e
+
+pub and-no-right : (a b : Bool) → b ≡ false → (a && b) ≡ false
+and-no-right true b e = e
+and-no-right false b e = refl
+
 pub or-left : (a b : Bool) → (a || b) ≡ false → a ≡ false
 or-left true b e = e
 or-left false b e = refl

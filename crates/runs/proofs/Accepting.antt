@@ -10,7 +10,7 @@ use borrow.Author.Tests.{ne-eqb, not-false}
 use Rattle.routing.specs.Four.{some}
 use Rattle.routing.specs.Header.{outputAsked, headerOf, someActive}
 use Rattle.routing.specs.Route.{asked}
-use Rattle.routing.proofs.Fours.{no-at, none-of, and-left}
+use Rattle.routing.proofs.Fours.{no-at, none-of, and-left, and-no-left, and-no-right}
 use Rattle.routing.proofs.Winners.{winner-output}
 use Rattle.states.specs.declared.state.State.{State}
 use Rattle.states.specs.State.{shutAt, holderAt, openWhileWaiting, shareHolder, stateRefusal}
@@ -22,13 +22,6 @@ use Rattle.runs.specs.Run.{Run, runFrom, Accepted, FromReset, FromAccept
 use Rattle.runs.specs.Routing.{routesAt, RoutingAt}
 use Rattle.runs.specs.Accepted.{ResetAccepted, CycleAccepted, RunAccepted}
 use Rattle.runs.proofs.Cycles.{waits-started, runs-routed, phase-kept, shut-started, shut-kept, shut-unasked, holder-kept, holder-won}
-
-and-no-left : (a b : Bool) → a ≡ false → (a && b) ≡ false
-and-no-left a b e = rw e
-
-and-no-right : (a b : Bool) → b ≡ false → (a && b) ≡ false
-and-no-right true b e = e
-and-no-right false b e = refl
 
 -- an accepted state that waits has every output shut
 all-shut : (s : State) → Accepted s → s .waiting ≡ true → (o : ℕ) → o < 4 → shutAt s o ≡ true

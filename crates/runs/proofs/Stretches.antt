@@ -12,13 +12,13 @@ use lib.ListN.{getD}
 use borrow.Author.Tests.{eqb-true, eq-eqb, not-true}
 use Rattle.routing.specs.Header.{someActive}
 use Rattle.routing.specs.Turn.{inTurn}
-use Rattle.routing.proofs.Fours.{none-of, some-of, and-left, and-right}
+use Rattle.routing.proofs.Fours.{none-of, some-of, and-left, and-right, and-no-right}
 use Rattle.routing.proofs.Turns.{turn-lt, turn-named}
-use Rattle.states.specs.State.{shutAt}
-use Rattle.fabric.specs.Cycle.{passes, switchByte}
+use Rattle.states.specs.State.{shutAt, firstRow}
+use Rattle.fabric.specs.Cycle.{Machine, passes, switchByte}
 use Rattle.runs.specs.Run.{Run, sent, NoFrameStartAt, AcknowledgedBy, head, ack, holder, Shut, Open, headersAt}
 use Rattle.runs.specs.Routing.{NoRoutingAt}
-use Rattle.runs.specs.Frame.{Quiet, QuietBefore}
+use Rattle.runs.specs.Frame.{QuietReset, Quiet, QuietBefore}
 use Rattle.runs.proofs.Cycles.{phase-kept, shut-kept, holder-kept, second-is, second-two, head-two}
 
 -- ---- the heads, from the cycle k two before t
@@ -70,15 +70,14 @@ module _ (r : Run) (t i : ℕ) where
 
 -- ---- no routing
 
-and-no-right : (a b : Bool) → b ≡ false → (a && b) ≡ false
-and-no-right true b e = e
-and-no-right false b e = refl
-
 quiet-headers : (r : Run) (t : ℕ) → someActive (headersAt r t) ≡ false → NoRoutingAt r t
 quiet-headers r t = and-no-right (r .at t .state .waiting) (someActive (headersAt r t))
 
 pub running-no-routing : (r : Run) (t : ℕ) → r .at t .state .waiting ≡ false → NoRoutingAt r t
 running-no-routing r t e = rw e
+
+pub quiet-reset : QuietReset
+quiet-reset r start = ap (λ (m : Machine). someActive (firstRow (m .rows))) start
 
 -- where no active bit is sent in ts-1 .. e-1, no routing happens in ts+1 .. e+1
 pub quiet-no-routing : (r : Run) (ts e : ℕ) → Quiet r ts e → (t : ℕ) → ts < t → t < e + 2 → NoRoutingAt r t

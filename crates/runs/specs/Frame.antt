@@ -4,7 +4,7 @@ use mathlib.Core.Path.{_≡_}
 use mathlib.Core.Logic.{_↔_}
 use Prim.Native.Nat.{ℕ, zero, suc, _+_, _-_, _<_, _≤_}
 use Rattle.routing.specs.Header.{asks}
-use Rattle.runs.specs.Run.{Run, sent, SomeActiveAt, NoneActiveAt, NoneActiveBefore, FrameStartAt, NoFrameStartAt, AcknowledgedBy, head, ack, holder}
+use Rattle.runs.specs.Run.{Run, FromReset, sent, SomeActiveAt, NoneActiveAt, NoneActiveBefore, FrameStartAt, NoFrameStartAt, AcknowledgedBy, head, ack, holder}
 use Rattle.runs.specs.Routing.{RoutingAt, Asks, AskedFor, Wins}
 
 -- A frame start at ts, the next one at te.
@@ -18,6 +18,10 @@ pub record Frame (r : Run) (ts te : ℕ) : Type 0 where
 abbrev pub QuietBefore : Run → ℕ → Type 0
 QuietBefore r zero = NoneActiveBefore r
 QuietBefore r (suc t) = NoneActiveAt r t
+
+-- From reset the cycle before the run counts as zeros.
+abbrev pub QuietReset : Type 0
+QuietReset = (r : Run) → FromReset r → QuietBefore r 0
 
 -- no active bit from cycle ts-1 to cycle e-1
 pub record Quiet (r : Run) (ts e : ℕ) : Type 0 where
