@@ -3,7 +3,7 @@
 pub mod batches;
 pub mod captures;
 mod edges;
-mod frames;
+pub mod frames;
 mod requests;
 pub mod rng;
 mod spoil;

@@ -2,98 +2,147 @@
 //! The claims count cycles from frame starts and headers and not by rules,
 //! so a delay that is one too long in the model would show here.
 
-use super::cycle::{Cycle, Inputs};
-use super::state::State;
-use super::RIGHT;
+use super::claims::{claim, Header, Held, Run, Seen};
+use super::frame_tapes::{write, Frame};
+use super::{Model, RIGHT};
 use crate::make::rng::Rng;
-use std::array::from_fn;
 
-struct Frame {
-    ts: usize,
-    th: usize,
-    te: usize,
-}
+type Claim = fn(&Run, &Frame) -> Held;
 
-/// What the bytes of a cycle may be.
-#[derive(Clone, Copy)]
-enum Bytes {
-    Quiet,
-    Header,
-    Any,
-}
+pub const CLAIMS: [(&str, Claim); 4] = [
+    ("frame routing", routing),
+    ("frame heads", heads),
+    ("frame acks", acks),
+    ("frame holders", holders),
+];
 
-fn push(rng: &mut Rng, inputs: &mut Vec<Inputs>, times: usize, start: bool, kind: Bytes) {
-    for _ in 0..times {
-        let bytes = from_fn(|_| match kind {
-            Bytes::Quiet => rng.byte() & !1,
-            Bytes::Header => rng.byte() | 1,
-            Bytes::Any => rng.byte(),
-        });
-        let acks = from_fn(|_| rng.once_in(2));
-        inputs.push(Inputs { start, acks, bytes });
+impl Frame {
+    /// A number of cycles after the header, or later.
+    fn after_header(&self, cycles: usize, t: usize) -> bool {
+        self.th.map_or(false, |th| t >= th + cycles)
+    }
+
+    /// Who asked for an output, read from the bytes as they were sent.
+    fn askers(&self, run: &Run, output: usize) -> Vec<usize> {
+        let asks = |th: usize, i: usize| Header(run.inputs[th].bytes[i]).asks(output);
+        let asked = |i: &usize| self.th.map_or(false, |th| asks(th, *i));
+        (0..4).filter(asked).collect()
+    }
+
+    fn high(&self, run: &Run, input: usize) -> bool {
+        self.th
+            .map_or(false, |th| Header(run.inputs[th].bytes[input]).high())
+    }
+
+    fn winner(&self, run: &Run, output: usize) -> Option<usize> {
+        let report = self.th.and_then(|th| run.reports[th + 2]);
+        let win = report.and_then(|wins| wins[output]);
+        win.map(|win| usize::from(win.winner))
     }
 }
 
-/// Active frames one after another, and a last start to end them.
-fn write(rng: &mut Rng) -> (Vec<Inputs>, Vec<Frame>) {
-    let mut inputs = Vec::new();
-    let mut frames: Vec<Frame> = Vec::new();
-    for _ in 0..6 {
-        let (gap, lead, length) = (rng.below(3), rng.below(3), rng.from_to(1, 9));
-        push(rng, &mut inputs, gap, false, Bytes::Quiet);
-        let ts = inputs.len();
-        push(rng, &mut inputs, 1, true, Bytes::Quiet);
-        push(rng, &mut inputs, lead, false, Bytes::Quiet);
-        let th = inputs.len();
-        push(rng, &mut inputs, 1, false, Bytes::Header);
-        push(rng, &mut inputs, length, false, Bytes::Any);
-        push(rng, &mut inputs, 1, false, Bytes::Quiet);
-        if let Some(before) = frames.last_mut() {
-            before.te = ts;
+/// The only routing is two cycles after the header; each output asked for
+/// has a winner, one of its askers and a high one if there is any.
+fn routing(run: &Run, frame: &Frame) -> Held {
+    for t in frame.ts + 1..=frame.te + 1 {
+        let due = frame.th.map_or(false, |th| t == th + 2);
+        claim(run.reports[t].is_some() == due, "a routing when due", t, 0)?;
+    }
+    for o in 0..4 {
+        let askers = frame.askers(run, o);
+        let some_high = askers.iter().any(|&i| frame.high(run, i));
+        let good = match frame.winner(run, o) {
+            Some(i) => askers.contains(&i) && frame.high(run, i) == some_high,
+            None => askers.is_empty(),
+        };
+        claim(good, "a winner among the askers", frame.ts, o)?;
+    }
+    Ok(())
+}
+
+fn heads(run: &Run, frame: &Frame) -> Held {
+    for t in frame.ts + 3..=frame.te + 3 {
+        let shows = frame.after_header(5, t) && t <= frame.te + 2;
+        for o in 0..4 {
+            let winner = frame.winner(run, o).filter(|_| shows);
+            let byte = winner.map_or(0, |i| run.inputs[t - 4].bytes[i]);
+            claim(run.head(t, o) == byte, "the head byte", t, o)?;
         }
-        let te = inputs.len();
-        frames.push(Frame { ts, th, te });
     }
-    push(rng, &mut inputs, 1, true, Bytes::Quiet);
-    push(rng, &mut inputs, 3, false, Bytes::Quiet);
-    (inputs, frames)
+    Ok(())
 }
 
-fn run(inputs: &[Inputs]) -> Vec<Cycle> {
-    let mut state = State::reset();
-    let mut cycles = Vec::new();
-    for input in inputs {
-        let cycle = RIGHT.cycle(&state, input);
-        state = cycle.next.clone();
-        cycles.push(cycle);
+fn acks(run: &Run, frame: &Frame) -> Held {
+    for t in frame.ts + 1..=frame.te {
+        for i in 0..4 {
+            let won = |o: usize| frame.winner(run, o) == Some(i);
+            let told = (0..4).any(|o| won(o) && run.inputs[t].acks[o]);
+            let acked = frame.after_header(3, t) && told;
+            claim(run.acked(t, i) == acked, "the acknowledgement", t, i)?;
+        }
     }
-    cycles
+    Ok(())
 }
 
-fn check(frame: &Frame, inputs: &[Inputs], cycles: &[Cycle]) {
+/// A routing of the history may still fall in cycle ts, so holders are
+/// compared with those of the cycle after it.
+fn holders(run: &Run, frame: &Frame) -> Held {
+    for t in frame.ts + 1..=frame.te + 1 {
+        for o in 0..4 {
+            let winner = frame.winner(run, o).filter(|_| frame.after_header(3, t));
+            let holder = winner.unwrap_or_else(|| run.holder(frame.ts + 1, o));
+            claim(run.holder(t, o) == holder, "the holder", t, o)?;
+        }
+    }
+    Ok(())
+}
+
+fn see(run: &Run, frame: &Frame, seen: &mut Seen) {
     let &Frame { ts, th, te } = frame;
-    let routing = cycles[th + 2].report.expect("a routing two after a header");
-    let winner = |o: usize| routing[o].map(|win| usize::from(win.winner));
-    for t in ts + 3..=te + 2 {
-        let shown = |o| winner(o).filter(|_| t >= th + 5);
-        let heads = from_fn(|o| shown(o).map_or(0, |i| inputs[t - 4].bytes[i]));
-        assert_eq!(cycles[t].answer.heads, heads, "cycle {t}");
+    seen.count("frame in cycle 0", ts == 0);
+    seen.count("start in cycle ts-1", ts > 0 && run.inputs[ts - 1].start);
+    seen.count("routing in cycle ts", run.reports[ts].is_some());
+    seen.count("inactive frame", th.is_none());
+    seen.count("te is th+3", th.map_or(false, |th| te == th + 3));
+    for o in 0..4 {
+        let askers = frame.askers(run, o);
+        let highs = askers.iter().filter(|&&i| frame.high(run, i)).count();
+        let unasked = th.is_some() && askers.is_empty();
+        seen.count("output open in cycle ts", run.open(ts, o));
+        seen.count("unasked output", unasked);
+        seen.count(
+            "unasked output acknowledged",
+            unasked && run.inputs[te].acks[o],
+        );
+        seen.count("contended output", askers.len() > 1);
+        seen.count("high over low", 0 < highs && highs < askers.len());
+        seen.count("acknowledged input", run.acked(te, o));
     }
-    for t in ts + 1..=te {
-        let acked = |i| (0..4).any(|o| winner(o) == Some(i) && inputs[t].acks[o]);
-        let acks = from_fn(|i| t >= th + 3 && acked(i));
-        assert_eq!(cycles[t].answer.acks, acks, "cycle {t}");
-    }
+}
+
+pub fn tape(number: usize) -> (Vec<u8>, Vec<Frame>) {
+    write(&mut Rng::for_work(1, 3, number))
+}
+
+/// The first frame of a tape for which a claim does not hold.
+pub fn tried(model: Model, claim: Claim, number: usize) -> Held {
+    let (capture, frames) = tape(number);
+    let run = Run::of(model, &capture);
+    frames.iter().try_for_each(|frame| claim(&run, frame))
 }
 
 #[test]
-fn frames_show_what_was_sent() {
-    for number in 0..200 {
-        let mut rng = Rng::for_work(1, 3, number);
-        let (inputs, frames) = write(&mut rng);
-        let cycles = run(&inputs);
+fn frames_are_as_claimed() {
+    let mut seen = Seen::default();
+    for number in 0..400 {
+        let (capture, frames) = tape(number);
+        let run = Run::of(RIGHT, &capture);
         for frame in &frames {
-            check(frame, &inputs, &cycles);
+            for (name, claim) in CLAIMS {
+                assert_eq!(claim(&run, frame), Ok(()), "{name} on tape {number}");
+            }
+            see(&run, frame, &mut seen);
         }
     }
+    seen.enough(11, 100);
 }

@@ -1,11 +1,21 @@
 //! The model: document 01 in ordinary code.
 
 mod answers;
+#[cfg(test)]
+mod claims;
+#[cfg(test)]
+mod claims_catch;
 pub mod cycle;
+#[cfg(test)]
+mod demand_claims;
+#[cfg(test)]
+mod demand_runs;
 #[cfg(test)]
 mod document;
 #[cfg(test)]
 mod frame_claims;
+#[cfg(test)]
+mod frame_tapes;
 pub mod gates;
 pub mod listing;
 pub mod probe;

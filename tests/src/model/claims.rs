@@ -1,0 +1,111 @@
+//! What the claims about the model stand on: a run, and a count of what was
+//! seen in it.
+
+use super::cycle::{Inputs, Routing, RECORD};
+use super::state::{State, SECOND};
+use super::{Model, DONE};
+use std::collections::BTreeMap;
+
+/// A run from reset. There is one state more than there are cycles: a cycle
+/// has the one at its start, and the last is left at the end.
+pub struct Run {
+    pub inputs: Vec<Inputs>,
+    pub states: Vec<State>,
+    pub reports: Vec<Option<Routing>>,
+    answers: Vec<u8>,
+}
+
+impl Run {
+    /// The answers come from a whole replay, where a fault can also stand
+    /// between two cycles.
+    pub fn of(model: Model, capture: &[u8]) -> Run {
+        let mut answers = vec![0; capture.len()];
+        let (verdict, _) = model.replay(&State::reset(), capture, &mut answers);
+        assert_eq!(verdict, DONE);
+        let inputs: Vec<Inputs> = capture.chunks(RECORD).map(Inputs::from_record).collect();
+        let mut states = vec![State::reset()];
+        let mut reports = Vec::new();
+        for (t, input) in inputs.iter().enumerate() {
+            let cycle = model.cycle(&states[t], input);
+            states.push(cycle.next);
+            reports.push(cycle.report);
+        }
+        Run {
+            inputs,
+            states,
+            reports,
+            answers,
+        }
+    }
+
+    pub fn cycles(&self) -> usize {
+        self.inputs.len()
+    }
+
+    pub fn head(&self, t: usize, output: usize) -> u8 {
+        self.answers[t * RECORD + 1 + output]
+    }
+
+    pub fn acked(&self, t: usize, input: usize) -> bool {
+        self.answers[t * RECORD] >> input & 1 == 1
+    }
+
+    pub fn open(&self, t: usize, output: usize) -> bool {
+        !self.states[t].shut[output]
+    }
+
+    pub fn holder(&self, t: usize, output: usize) -> usize {
+        usize::from(self.states[t].holder[output])
+    }
+
+    pub fn header(&self, t: usize, input: usize) -> Header {
+        Header(self.states[t].rows[SECOND][input])
+    }
+}
+
+/// A header read here and not by the model, which could read it wrongly.
+#[derive(Clone, Copy)]
+pub struct Header(pub u8);
+
+impl Header {
+    pub fn active(self) -> bool {
+        self.0 & 1 == 1
+    }
+
+    pub fn asks(self, output: usize) -> bool {
+        self.active() && usize::from(self.0 >> 2 & 3) == output
+    }
+
+    pub fn high(self) -> bool {
+        self.0 & 3 == 3
+    }
+}
+
+/// The error says what does not hold, and where.
+pub type Held = Result<(), String>;
+
+pub fn claim(holds: bool, words: &str, t: usize, port: usize) -> Held {
+    if holds {
+        Ok(())
+    } else {
+        Err(format!("not so in cycle {t} at port {port}: {words}"))
+    }
+}
+
+/// How often each case was seen: a claim says nothing of cases that never
+/// came up.
+#[derive(Debug, Default)]
+pub struct Seen(BTreeMap<&'static str, usize>);
+
+impl Seen {
+    pub fn count(&mut self, case: &'static str, seen: bool) {
+        *self.0.entry(case).or_insert(0) += usize::from(seen);
+    }
+
+    /// The number of cases is said too, for one that was not even looked for
+    /// has no count.
+    pub fn enough(&self, cases: usize, least: usize) {
+        let good = self.0.len() == cases && self.0.values().all(|&times| times >= least);
+        assert!(good, "{cases} cases, {least} times each: {self:#?}");
+    }
+}
