@@ -9,8 +9,7 @@ use native.Mathlib.Omega.{arith}
 use lib.Dec.{ltb, lit<}
 use lib.ListN.{length, getD, drop, List·getD-append}
 use lib.Seq.{getD-append-add}
-use borrow.Author.Tests.{ltb-false}
-use Rattle.routing.specs.Four.{four, bit, bitAt}
+use Rattle.routing.specs.Four.{four, bitAt}
 use Rattle.routing.proofs.Equal.{row-of}
 use Rattle.routing.proofs.Fours.{at-four}
 use Rattle.routing.proofs.Masks.{in-mask, bit-le}
@@ -25,7 +24,7 @@ use Rattle.records.specs.Record.{byteAt, flagAt, inputsFrom}
 use Rattle.records.specs.Answers.{answerOf, answersOf}
 use Rattle.records.proofs.Answered.{answers-length}
 use Rattle.capture.specs.declared.refusal.Judged.the-variants.{Done}
-use Rattle.capture.specs.Capture.{records, fiveAt, recordAt, inputsIn}
+use Rattle.capture.specs.Capture.{records, fiveAt, inputsIn}
 use Rattle.capture.specs.Refusal.{judged}
 use Rattle.capture.specs.Replay.{replayWrites}
 use Rattle.capture.proofs.Records.{record-there}

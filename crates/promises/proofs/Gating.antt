@@ -1,6 +1,6 @@
 -- A run by gates is a run by the rules. Assumes nothing.
 use mathlib.Core.Path.{_≡_, refl, sym, ap, subst, _∙_}
-use mathlib.Core.List.{List, [], _∷_}
+use mathlib.Core.List.{[], _∷_}
 use Prim.Native.Nat.{ℕ, zero, suc}
 use Rattle.states.specs.State.{firstRow, secondRow}
 use Rattle.states.proofs.States.{held}

@@ -4,7 +4,7 @@ use mathlib.Core.List.{List, [], _∷_}
 use Prim.Native.Nat.{ℕ, _+_, _*_}
 use lib.Dec.{T, eqb}
 use lib.ListN.{getD}
-use Rattle.routing.specs.Four.{four, some}
+use Rattle.routing.specs.Four.{four}
 use Rattle.routing.specs.Header.{asks, asksHigh}
 use Rattle.routing.specs.Port.{input}
 use Rattle.fabric.specs.Cycle.{holderAfter}

@@ -19,6 +19,18 @@ at-four f d (suc (suc zero)) h = refl
 at-four f d (suc (suc (suc zero))) h = refl
 at-four f d (suc (suc (suc (suc i)))) h = absurd (omega arith)
 
+-- an answer is yes or no, and what is not the one is the other
+pub not-both : {b : Bool} → b ≡ true → b ≡ false → ⊥
+not-both p q = true≢false (sym p ∙ q)
+
+pub yes-unless : {b : Bool} → (b ≡ false → ⊥) → b ≡ true
+yes-unless {b = true} h = refl
+yes-unless {b = false} h = absurd (h refl)
+
+pub no-unless : {b : Bool} → (b ≡ true → ⊥) → b ≡ false
+no-unless {b = true} h = absurd (h refl)
+no-unless {b = false} h = refl
+
 pub and-left : (a b : Bool) → (a && b) ≡ true → a ≡ true
 and-left true b e = refl
 and-left false b e = e
@@ -56,8 +68,4 @@ module _ (f : ℕ → Bool) where
 
   -- a yes at one of the four is a yes of some
   pub some-of : (i : ℕ) → i < 4 → f i ≡ true → some f ≡ true
-  some-of i h named = go (some f) refl
-    where
-      go : (b : Bool) → some f ≡ b → some f ≡ true
-      go true e = e
-      go false e = absurd (true≢false (sym named ∙ no-at e i h))
+  some-of i h named = yes-unless (λ e. not-both named (no-at e i h))

@@ -15,13 +15,13 @@ use Rattle.routing.proofs.Winners.{winner-output}
 use Rattle.states.specs.declared.state.State.{State}
 use Rattle.states.specs.State.{shutAt, holderAt, openWhileWaiting, shareHolder, stateRefusal}
 use Rattle.states.proofs.States.{held-at, not-open-waiting, not-twice}
-use Rattle.fabric.specs.Cycle.{Machine, stateAfter}
+use Rattle.fabric.specs.Cycle.{Machine}
 use Rattle.fabric.specs.Run.{runOf}
 use Rattle.fabric.proofs.Steps.{holder-below, no-pair, accepted-of}
 use Rattle.runs.specs.Run.{Run, runFrom, Accepted, FromReset, FromAccepted, holder, Shut, headersAt}
 use Rattle.runs.specs.Routing.{routesAt, RoutingAt}
 use Rattle.runs.specs.Accepted.{ResetAccepted, CycleAccepted, RunAccepted}
-use Rattle.runs.proofs.Cycles.{waits-started, runs-routed, phase-kept, shut-started, shut-kept, shut-unasked, holder-kept, holder-won}
+use Rattle.runs.proofs.Cycles.{runs-routed, phase-kept, shut-started, shut-kept, shut-unasked, holder-kept, holder-won}
 
 -- an accepted state that waits has every output shut
 all-shut : (s : State) → Accepted s → s .waiting ≡ true → (o : ℕ) → o < 4 → shutAt s o ≡ true

@@ -1,24 +1,16 @@
 -- Who asks and who is in the highest class asking, as the words say it and as rule 4 computes it. Assumes nothing.
-use mathlib.Core.Bool.{Bool, true, false, cond, true≢false}
-use mathlib.Core.Path.{_≡_, refl, sym, _∙_}
+use mathlib.Core.Bool.{Bool, true, false, cond}
+use mathlib.Core.Path.{_≡_, refl}
 use mathlib.Core.List.{List}
-use mathlib.Core.Logic.{_⊎_, inl, inr}
 use Prim.Native.Nat.{ℕ, _<_}
 use Rattle.routing.specs.Header.{asker, highAsker}
 use Rattle.routing.specs.Route.{asked, askedHigh, remains}
 use Rattle.routing.specs.Turn.{inTurn}
-use Rattle.routing.proofs.Fours.{no-at, some-of}
+use Rattle.routing.proofs.Fours.{not-both, no-unless, no-at, some-of}
 use Rattle.routing.proofs.Turns.{turn-lt, turn-named}
 use Rattle.routing.proofs.Winners.{remaining-asks}
 use Rattle.runs.specs.Run.{Run, headersAt}
 use Rattle.runs.specs.Routing.{AsksHigh, AskedFor, InHighestClass}
-
-pub yes-or-no : (b : Bool) → (b ≡ true) ⊎ (b ≡ false)
-yes-or-no true = inl refl
-yes-or-no false = inr refl
-
-pub not-both : {b : Bool} → b ≡ true → b ≡ false → ⊥
-not-both p q = true≢false (sym p ∙ q)
 
 module _ (r : Run) (t o : ℕ) where
   abbrev headers : List ℕ
@@ -31,11 +23,7 @@ module _ (r : Run) (t o : ℕ) where
   is-asked a = some-of (asker headers o) (a .by) (a .is-input) (a .asks)
 
   pub not-asked : (AskedFor r t o → ⊥) → asked headers o ≡ false
-  not-asked n = go (yes-or-no (asked headers o))
-    where
-      go : (asked headers o ≡ true) ⊎ (asked headers o ≡ false) → asked headers o ≡ false
-      go (inl e) = absurd (n (asked-for e))
-      go (inr e) = e
+  not-asked n = no-unless (λ e. n (asked-for e))
 
   pub by-nobody : asked headers o ≡ false → AskedFor r t o → ⊥
   by-nobody e a = not-both (is-asked a) e

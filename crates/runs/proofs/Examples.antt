@@ -1,5 +1,5 @@
 -- The examples, computed. Assumes nothing.
-use mathlib.Core.Bool.{Bool, true, false, _||_}
+use mathlib.Core.Bool.{Bool, false, _||_}
 use mathlib.Core.Path.{_≡_, refl, sym, ap, _∙_}
 use mathlib.Core.List.{[], _∷_}
 use Prim.Native.Nat.{ℕ, zero, suc, _+_, _<_, _≤_}
@@ -9,12 +9,12 @@ use lib.ListN.{getD}
 use borrow.Author.Tests.{ne-eqb}
 use Rattle.routing.specs.Header.{asksHigh}
 use Rattle.routing.specs.Turn.{inTurn}
+use Rattle.routing.proofs.Fours.{not-both}
 use Rattle.fabric.specs.Cycle.{stateAfter, rowsAfter}
 use Rattle.fabric.specs.Run.{runOf}
 use Rattle.runs.specs.Run.{NoneActiveAt, holder}
-use Rattle.runs.specs.Routing.{InHighestClass, Wins, routingsBefore, KthRouting}
+use Rattle.runs.specs.Routing.{InHighestClass, routingsBefore, KthRouting}
 use Rattle.runs.specs.Examples.{worked, WorkedFrame, crowd, ThreeAreNotEnough}
-use Rattle.runs.proofs.Askers.{not-both}
 
 worked-quiet : (t : ℕ) → 0 ≤ t → t < 2 → NoneActiveAt worked t
 worked-quiet zero l h = refl

@@ -1,6 +1,6 @@
 -- Well-formed frames, of any run. Assumes nothing.
-use mathlib.Core.Bool.{true, false}
-use mathlib.Core.Path.{_≡_, refl, sym, ap, subst, _∙_}
+use mathlib.Core.Bool.{true}
+use mathlib.Core.Path.{_≡_, sym, ap, subst, _∙_}
 use mathlib.Core.Logic.{_⊎_, inl, inr}
 use mathlib.Core.List.{List}
 use Prim.Native.Nat.{ℕ, suc, _+_, _-_, _<_, _≤_}
@@ -8,13 +8,13 @@ use native.Mathlib.Omega.{arith}
 use native.Mathlib.Nat.{eq-or-lt-of-le}
 use lib.ListN.{getD}
 use Rattle.routing.specs.Header.{someActive, asks}
-use Rattle.routing.specs.Route.{asked}
+use Rattle.routing.proofs.Fours.{not-both, yes-unless}
 use Rattle.runs.specs.Run.{Run, NoFrameStartAt, ack, holder, Shut, Open, headersAt}
-use Rattle.runs.specs.Routing.{RoutingAt, NoRoutingAt, AskedFor, Wins}
+use Rattle.runs.specs.Routing.{RoutingAt, NoRoutingAt, AskedFor}
 use Rattle.runs.specs.Frame.{ActiveFrame, FromWon, ActiveFrames, InactiveFrame, InactiveFrames}
 use Rattle.runs.proofs.Cycles.{waits-started, runs-routed, holder-kept, holder-unasked, shut-started, shut-unasked, open-asked, second-two}
-use Rattle.runs.proofs.Askers.{yes-or-no, not-both, asked-for, is-asked, not-asked}
-use Rattle.runs.proofs.Stretches.{head-shut, head-open, GivenBy, ack-none, ack-from, ack-to, running-no-routing, quiet-no-routing, Same, stretch}
+use Rattle.runs.proofs.Askers.{asked-for, is-asked, not-asked, by-nobody}
+use Rattle.runs.proofs.Stretches.{head-shut, head-open, ack-none, ack-from, ack-to, running-no-routing, quiet-no-routing, Same, stretch}
 
 -- what holds in all cycles up to e, and in the next
 up-to : (P : ℕ → Type 0) (e : ℕ) → P (suc e) → (t : ℕ) → (t ≤ e → P t) → t ≤ e + 1 → P t
@@ -97,11 +97,7 @@ module _ (r : Run) (ts th te : ℕ) (a : ActiveFrame r ts th te) where
   asked-open o l q = open-asked r tr o l no-start-then happens (is-asked r tr o q)
 
   open-was-asked : (o : ℕ) → o < 4 → Open r (suc tr) o → AskedFor r tr o
-  open-was-asked o l e = go (yes-or-no (asked (headersAt r tr) o))
-    where
-      go : (asked (headersAt r tr) o ≡ true) ⊎ (asked (headersAt r tr) o ≡ false) → AskedFor r tr o
-      go (inl q) = asked-for r tr o q
-      go (inr z) = absurd (not-both (shut-unasked r tr o l no-start-then happens z ∙ waiting-shut tr o l ordered (omega arith)) e)
+  open-was-asked o l e = asked-for r tr o (yes-unless (λ z. not-both (unasked-shut o l (by-nobody r tr o z)) e))
 
   running-held : (t o : ℕ) → o < 4 → suc tr ≤ t → t ≤ te + 1 → holder r t o ≡ holder r (suc tr) o
   running-held t o l p =

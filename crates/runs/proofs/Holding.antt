@@ -4,15 +4,15 @@ use mathlib.Core.Path.{_≡_, refl, sym, _∙_}
 use Prim.Native.Nat.{ℕ, _<_, _≤_}
 use native.Mathlib.Omega.{arith}
 use native.Mathlib.Decide.{le-ind}
-use lib.Dec.{eqb, ltb}
+use lib.Dec.{ltb}
 use borrow.Author.Tests.{ltb-true, ltb-false, eq-eqb}
-use Rattle.states.specs.State.{shutAt, holderAt, shareHolder}
+use Rattle.routing.proofs.Fours.{not-both}
+use Rattle.states.specs.State.{shutAt, holderAt}
 use Rattle.states.proofs.States.{not-twice}
 use Rattle.fabric.proofs.Steps.{no-pair}
 use Rattle.runs.specs.Run.{Run, FromAccepted, holder, Open}
 use Rattle.runs.specs.Holding.{Holding, Apart}
 use Rattle.runs.proofs.Cycles.{holder-kept}
-use Rattle.runs.proofs.Askers.{not-both}
 use Rattle.runs.proofs.Accepting.{run-accepted}
 use Rattle.runs.proofs.Opening.{open-no-routing}
 

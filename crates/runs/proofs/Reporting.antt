@@ -1,7 +1,6 @@
 -- The report says who won. Assumes nothing.
 use mathlib.Core.Bool.{Bool, true, false, _||_, true≢false}
-use mathlib.Core.Path.{_≡_, refl, sym, ap, _∙_}
-use mathlib.Core.Logic.{_⊎_, inl, inr}
+use mathlib.Core.Path.{_≡_, sym, ap, _∙_}
 use mathlib.Core.List.{List}
 use Prim.Native.Nat.{ℕ, suc, _+_, _<_, _≤_}
 use native.Mathlib.Omega.{arith}
@@ -15,12 +14,12 @@ use Rattle.routing.specs.Four.{some, bit, count}
 use Rattle.routing.specs.Header.{asker}
 use Rattle.routing.specs.Port.{input}
 use Rattle.routing.specs.Route.{asked, winner, turnedAway, decided, outcomes, reported}
-use Rattle.routing.proofs.Fours.{at-four}
+use Rattle.routing.proofs.Fours.{at-four, not-both, yes-unless, no-unless}
 use Rattle.runs.specs.Run.{Run, holder, reportAt, headersAt}
-use Rattle.runs.specs.Routing.{routesAt, RoutingAt, NoRoutingAt, AskedFor, askers, Wins}
+use Rattle.runs.specs.Routing.{RoutingAt, NoRoutingAt, askers, Wins}
 use Rattle.runs.specs.Winning.{outcomeOf, Reports, Reporting}
 use Rattle.runs.proofs.Cycles.{holder-won}
-use Rattle.runs.proofs.Askers.{yes-or-no, not-both, asked-for, is-asked, not-asked, by-nobody}
+use Rattle.runs.proofs.Askers.{asked-for, is-asked, not-asked, by-nobody}
 
 -- ---- what can be read off a report and an outcome
 
@@ -71,18 +70,10 @@ module _ (r : Run) (t : ℕ) where
   none n = rw n
 
   was-routed : {x : Outcomes} → reportAt r t ≡ Routing x → RoutingAt r t
-  was-routed e = go (yes-or-no (routesAt r t))
-    where
-      go : RoutingAt r t ⊎ NoRoutingAt r t → RoutingAt r t
-      go (inl n) = n
-      go (inr n) = absurd (not-both (ap isRouting e) (ap isRouting (none n)))
+  was-routed e = yes-unless (λ n. not-both (ap isRouting e) (ap isRouting (none n)))
 
   not-routed : reportAt r t ≡ NoRouting → NoRoutingAt r t
-  not-routed e = go (yes-or-no (routesAt r t))
-    where
-      go : RoutingAt r t ⊎ NoRoutingAt r t → NoRoutingAt r t
-      go (inl n) = absurd (not-both (ap isRouting (routed n)) (ap isRouting e))
-      go (inr n) = n
+  not-routed e = no-unless (λ n. not-both (ap isRouting (routed n)) (ap isRouting e))
 
   module _ (o : ℕ) (l : o < 4) where
     outcome-is : outcomeOf made o ≡ decided headers o (holder r t o)
@@ -103,18 +94,10 @@ module _ (r : Run) (t : ℕ) where
     decided-quiet a = rw a
 
     asked-if : {w : Input} {n : ℕ} → Reports r t o (Won w n) → asked headers o ≡ true
-    asked-if p = go (yes-or-no (asked headers o))
-      where
-        go : (asked headers o ≡ true) ⊎ (asked headers o ≡ false) → asked headers o ≡ true
-        go (inl a) = a
-        go (inr a) = absurd (not-both (ap isWon (said p)) (ap isWon (decided-quiet a)))
+    asked-if p = yes-unless (λ a. not-both (ap isWon (said p)) (ap isWon (decided-quiet a)))
 
     unasked-if : Reports r t o Quiet → asked headers o ≡ false
-    unasked-if p = go (yes-or-no (asked headers o))
-      where
-        go : (asked headers o ≡ true) ⊎ (asked headers o ≡ false) → asked headers o ≡ false
-        go (inl a) = absurd (not-both (ap isWon (decided-won a)) (ap isWon (said p)))
-        go (inr a) = a
+    unasked-if p = no-unless (λ a. not-both (ap isWon (decided-won a)) (ap isWon (said p)))
 
     module _ (i n : ℕ) where
       won-then : Reports r t o (Won (input i) n) → Wins r t i o × (suc n ≡ askers r t o)

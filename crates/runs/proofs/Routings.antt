@@ -8,13 +8,14 @@ use native.Mathlib.Nat.{add-zero}
 use native.Mathlib.Decide.{le-ind}
 use lib.Dec.{ltb}
 use borrow.Author.Tests.{ltb-true, ltb-false}
+use Rattle.routing.proofs.Fours.{no-unless}
 use Rattle.routing.specs.Four.{bit}
 use Rattle.routing.specs.Route.{asked, remains, winner}
 use Rattle.runs.specs.Run.{Run, holder, headersAt}
-use Rattle.runs.specs.Routing.{routesAt, RoutingAt, NoRoutingAt, AskedFor, InHighestClass, Wins, routingsBefore, KthRouting}
+use Rattle.runs.specs.Routing.{RoutingAt, NoRoutingAt, AskedFor, InHighestClass, Wins, routingsBefore, KthRouting}
 use Rattle.runs.specs.Routings.{InARow, WinsOneOf, FourRoutings}
 use Rattle.runs.proofs.Cycles.{holder-kept, holder-won}
-use Rattle.runs.proofs.Askers.{yes-or-no, is-asked, remains-then}
+use Rattle.runs.proofs.Askers.{is-asked, remains-then}
 use Rattle.runs.proofs.Turning.{first-after, Ahead, somewhere-ahead, Nearer, wins-or-nearer}
 
 module _ (r : Run) where
@@ -37,17 +38,14 @@ module _ (r : Run) where
         go false e = let m = more t s (ltb-false s t e) in let p = a .number in let q = b .number in absurd (omega arith)
 
     none-between : (j : ℕ) → suc s ≤ j → j < t → NoRoutingAt r j
-    none-between j lo hi = go (yes-or-no (routesAt r j))
-      where
-        go : RoutingAt r j ⊎ NoRoutingAt r j → NoRoutingAt r j
-        go (inl n) =
-            let m = more (suc s) j lo in
-            let u = more (suc j) t hi in
-            let c = counted s (a .happens) in
-            let d = counted j n in
-            let p = a .number in
-            let q = b .number in absurd (omega arith)
-        go (inr n) = n
+    none-between j lo hi =
+        no-unless (λ n.
+        let m = more (suc s) j lo in
+        let u = more (suc j) t hi in
+        let c = counted s (a .happens) in
+        let d = counted j n in
+        let p = a .number in
+        let q = b .number in omega arith)
 
     -- from one routing to the next no holder changes
     still : (o : ℕ) → o < 4 → holder r t o ≡ holder r (suc s) o

@@ -2,13 +2,13 @@
 use mathlib.Core.Bool.{Bool, true, cond}
 use mathlib.Core.Path.{_≡_, refl, sym, ap, _∙_}
 use mathlib.Core.List.{List}
-use Prim.Native.Nat.{ℕ, zero, suc, _+_, _-_, _<_}
+use Prim.Native.Nat.{ℕ, zero, suc, _+_, _-_}
 use native.Mathlib.Omega.{arith}
 use lib.ListN.{getD}
 use borrow.Author.Tests.{le-ltb}
 use Rattle.states.specs.State.{shutAt, firstRow, secondRow, switchRow, headRow, zeroRow, resetRows}
 use Rattle.fabric.specs.Cycle.{Machine, switchByte}
-use Rattle.runs.specs.Run.{Run, FromReset, sent, head, holder, headersAt}
+use Rattle.runs.specs.Run.{Run, FromReset, sent, holder}
 use Rattle.runs.specs.Showing.{before, holderTwoBefore, sentFourBefore, Showing}
 use Rattle.runs.proofs.Cycles.{second-is, second-two, head-one, head-two}
 

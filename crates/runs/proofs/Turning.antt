@@ -7,7 +7,7 @@ use native.Mathlib.Omega.{arith}
 use lib.Dec.{ltb}
 use borrow.Author.Tests.{ltb-true, ltb-false}
 use Rattle.routing.specs.Turn.{inTurn}
-use Rattle.runs.proofs.Askers.{not-both}
+use Rattle.routing.proofs.Fours.{not-both}
 
 -- w comes first of those whom f names, some steps after h
 pub record FirstAfter (f : ℕ → Bool) (h w : ℕ) : Type 0 where

@@ -2,14 +2,14 @@
 use mathlib.Core.Bool.{true}
 use mathlib.Core.Path.{_≡_, refl, sym, subst, _∙_}
 use mathlib.Core.List.{List}
-use Prim.Native.Nat.{ℕ, suc, _+_, _%_, _<_}
+use Prim.Native.Nat.{ℕ, suc, _+_, _%_}
 use Rattle.routing.specs.Route.{asked, remains, winner}
+use Rattle.routing.proofs.Fours.{not-both}
 use Rattle.routing.proofs.Winners.{winner-lt, winner-remains}
 use Rattle.runs.specs.Run.{Run, holder, headersAt}
-use Rattle.runs.specs.Routing.{Wins}
 use Rattle.runs.specs.Winning.{NextInTurn, Winner, Winning}
 use Rattle.runs.proofs.Cycles.{holder-unasked, holder-won}
-use Rattle.runs.proofs.Askers.{not-both, is-asked, not-asked, remains-then, highest-then}
+use Rattle.runs.proofs.Askers.{is-asked, not-asked, remains-then, highest-then}
 use Rattle.runs.proofs.Turning.{FirstAfter, first-after}
 
 module _ (r : Run) (t o : ℕ) where

@@ -1,5 +1,5 @@
 -- The words are met: document 01's replay holds a well-formed frame, and three routings in a row are not enough.
-use mathlib.Core.Bool.{Bool, true, false, _||_}
+use mathlib.Core.Bool.{true, false, _||_}
 use mathlib.Core.List.{List, [], _∷_}
 use Prim.Native.Nat.{ℕ, _+_, _<_}
 use lib.Dec.{eqb}

@@ -1,5 +1,5 @@
-//! What the claims about the model stand on: a run, and a count of what was
-//! seen in it.
+//! What the claims about the model stand on: a run, its headers, and a count
+//! of what was seen in it.
 
 use super::cycle::{Inputs, Routing, RECORD};
 use super::state::{State, SECOND};
@@ -10,8 +10,8 @@ use std::collections::BTreeMap;
 /// has the one at its start, and the last is left at the end.
 pub struct Run {
     pub inputs: Vec<Inputs>,
-    pub states: Vec<State>,
     pub reports: Vec<Option<Routing>>,
+    states: Vec<State>,
     answers: Vec<u8>,
 }
 
@@ -32,8 +32,8 @@ impl Run {
         }
         Run {
             inputs,
-            states,
             reports,
+            states,
             answers,
         }
     }
@@ -58,26 +58,33 @@ impl Run {
         usize::from(self.states[t].holder[output])
     }
 
-    pub fn header(&self, t: usize, input: usize) -> Header {
-        Header(self.states[t].rows[SECOND][input])
+    pub fn headers(&self, t: usize) -> Headers {
+        Headers(self.states[t].rows[SECOND])
     }
 }
 
-/// A header read here and not by the model, which could read it wrongly.
-#[derive(Clone, Copy)]
-pub struct Header(pub u8);
+/// Four headers, read here and not by the model, which could read them
+/// wrongly.
+pub struct Headers(pub [u8; 4]);
 
-impl Header {
-    pub fn active(self) -> bool {
-        self.0 & 1 == 1
+impl Headers {
+    pub fn some_active(&self) -> bool {
+        self.0.iter().any(|byte| byte & 1 == 1)
     }
 
-    pub fn asks(self, output: usize) -> bool {
-        self.active() && usize::from(self.0 >> 2 & 3) == output
+    pub fn askers(&self, output: usize) -> Vec<usize> {
+        let asks = |byte: u8| byte & 1 == 1 && usize::from(byte >> 2 & 3) == output;
+        (0..4).filter(|&i| asks(self.0[i])).collect()
     }
 
-    pub fn high(self) -> bool {
-        self.0 & 3 == 3
+    /// The askers of an output that are in the highest class asking for it.
+    pub fn foremost(&self, output: usize) -> Vec<usize> {
+        let mut askers = self.askers(output);
+        let high = |&i: &usize| self.0[i] & 2 == 2;
+        if askers.iter().any(high) {
+            askers.retain(high);
+        }
+        askers
     }
 }
 
@@ -94,7 +101,7 @@ pub fn claim(holds: bool, words: &str, t: usize, port: usize) -> Held {
 
 /// How often each case was seen: a claim says nothing of cases that never
 /// came up.
-#[derive(Debug, Default)]
+#[derive(Default)]
 pub struct Seen(BTreeMap<&'static str, usize>);
 
 impl Seen {
@@ -106,6 +113,6 @@ impl Seen {
     /// has no count.
     pub fn enough(&self, cases: usize, least: usize) {
         let good = self.0.len() == cases && self.0.values().all(|&times| times >= least);
-        assert!(good, "{cases} cases, {least} times each: {self:#?}");
+        assert!(good, "{cases} cases, {least} times each: {:#?}", self.0);
     }
 }

@@ -1,10 +1,12 @@
 //! The six parts of demand 3, each said of a whole run from reset. They speak
-//! of what is seen before and after, and read headers by themselves.
+//! of what is seen before and after a cycle, and read headers by themselves.
 
 use super::claims::{claim, Held, Run};
 use super::cycle::Win;
 
-pub const CLAIMS: [(&str, fn(&Run) -> Held); 6] = [
+pub type Claim = fn(&Run) -> Held;
+
+pub const CLAIMS: [(&str, Claim); 6] = [
     ("opening", opening),
     ("winner", winner),
     ("holding", holding),
@@ -20,8 +22,7 @@ pub fn routings(run: &Run) -> Vec<usize> {
     let (mut start, mut routing) = (None, None);
     let mut found = Vec::new();
     for t in 0..run.cycles() {
-        let called = (0..4).any(|i| run.header(t, i).active());
-        if called && start.is_some() && start >= routing {
+        if run.headers(t).some_active() && start.is_some() && start >= routing {
             routing = Some(t);
             found.push(t);
         }
@@ -32,23 +33,14 @@ pub fn routings(run: &Run) -> Vec<usize> {
     found
 }
 
-pub fn askers(run: &Run, t: usize, output: usize) -> Vec<usize> {
-    let asks = |i: &usize| run.header(t, *i).asks(output);
-    (0..4).filter(asks).collect()
-}
-
-/// The askers of an output that no other asker's class sets aside.
-pub fn foremost(run: &Run, t: usize, output: usize) -> Vec<usize> {
-    let mut left = askers(run, t, output);
-    if left.iter().any(|&i| run.header(t, i).high()) {
-        left.retain(|&i| run.header(t, i).high());
-    }
-    left
-}
-
 /// How many inputs come before this one, counting on from the old holder.
 pub fn place(old: usize, input: usize) -> usize {
     (input + 3 - old) % 4
+}
+
+/// To win is to be the new holder, also where a start keeps the output shut.
+pub fn wins(run: &Run, t: usize, input: usize, output: usize) -> bool {
+    run.holder(t + 1, output) == input
 }
 
 fn opening(run: &Run) -> Held {
@@ -58,10 +50,11 @@ fn opening(run: &Run) -> Held {
         let start = run.inputs[t].start;
         for o in 0..4 {
             let (open, then) = (run.open(t, o), run.open(t + 1, o));
-            let opens = routed && !start && !askers(run, t, o).is_empty();
+            let asked = !run.headers(t).askers(o).is_empty();
+            let opens = routed && asked && !start;
             claim(!(open && routed), "all are shut at a routing", t, o)?;
             claim(open || then == opens, "opens when it should", t, o)?;
-            claim(!open || then != start, "shuts on a start", t, o)?;
+            claim(!open || then != start, "shuts on a start alone", t, o)?;
         }
     }
     Ok(())
@@ -75,26 +68,28 @@ fn winner(run: &Run) -> Held {
         claim(report.is_some() == routed, "routings are reported", t, 0)?;
         for o in 0..4 {
             let named = report.and_then(|wins| wins[o]);
-            if routed && !askers(run, t, o).is_empty() {
+            if routed && !run.headers(t).askers(o).is_empty() {
                 won(run, t, o, named)?;
             } else {
                 let kept = run.holder(t + 1, o) == run.holder(t, o);
-                claim(kept && named.is_none(), "keeps its holder", t, o)?;
+                claim(kept, "the holder is kept", t, o)?;
+                claim(named.is_none(), "the report is quiet", t, o)?;
             }
         }
     }
     Ok(())
 }
 
+/// At an output asked for.
 fn won(run: &Run, t: usize, o: usize, named: Option<Win>) -> Held {
     let (old, new) = (run.holder(t, o), run.holder(t + 1, o));
-    let left = foremost(run, t, o);
+    let left = run.headers(t).foremost(o);
     claim(left.contains(&new), "the winner is in the class", t, o)?;
     let first = left.iter().all(|&i| place(old, new) <= place(old, i));
     claim(first, "the winner is first in turn", t, o)?;
     let win = Win {
         winner: new as u8,
-        turned_away: askers(run, t, o).len() - 1,
+        turned_away: run.headers(t).askers(o).len() - 1,
     };
     claim(named == Some(win), "the report names the winner", t, o)
 }
@@ -114,7 +109,7 @@ fn apart(run: &Run) -> Held {
     for t in 0..=run.cycles() {
         for o in 0..4 {
             let shared = |p: usize| run.open(t, p) && run.holder(t, p) == run.holder(t, o);
-            let alone = !run.open(t, o) || (0..o).all(|p| !shared(p));
+            let alone = !run.open(t, o) || !(0..o).any(shared);
             claim(alone, "nobody holds two", t, o)?;
         }
     }
@@ -135,19 +130,15 @@ fn showing(run: &Run) -> Held {
     Ok(())
 }
 
-/// To win is to be the new holder, also where a start keeps the output shut.
-pub fn wins(run: &Run, t: usize, input: usize, output: usize) -> bool {
-    run.holder(t + 1, output) == input
-}
-
-/// Routings next to each other, four at a time, with an input that asks for
-/// the same output at all of them and is never set aside.
-pub fn persistent(run: &Run) -> Vec<([usize; 4], usize, usize)> {
+/// Each four routings next to each other, with an input that asks for the
+/// same output at all of them and is never set aside.
+pub fn fours(run: &Run) -> Vec<(Vec<usize>, usize, usize)> {
     let mut found = Vec::new();
     for four in routings(run).windows(4) {
         for (i, o) in (0..16).map(|pair| (pair / 4, pair % 4)) {
-            if four.iter().all(|&t| foremost(run, t, o).contains(&i)) {
-                found.push(([four[0], four[1], four[2], four[3]], i, o));
+            let asks = |t: &usize| run.headers(*t).foremost(o).contains(&i);
+            if four.iter().all(asks) {
+                found.push((four.to_vec(), i, o));
             }
         }
     }
@@ -155,7 +146,7 @@ pub fn persistent(run: &Run) -> Vec<([usize; 4], usize, usize)> {
 }
 
 fn four_routings(run: &Run) -> Held {
-    for (four, i, o) in persistent(run) {
+    for (four, i, o) in fours(run) {
         let one = four.iter().any(|&t| wins(run, t, i, o));
         claim(one, "one of four is won", four[0], i)?;
     }

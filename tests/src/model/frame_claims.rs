@@ -2,8 +2,8 @@
 //! The claims count cycles from frame starts and headers and not by rules,
 //! so a delay that is one too long in the model would show here.
 
-use super::claims::{claim, Header, Held, Run, Seen};
-use super::frame_tapes::{write, Frame};
+use super::claims::{claim, Headers, Held, Run, Seen};
+use super::frame_tapes::{frames, write, Frame};
 use super::{Model, RIGHT};
 use crate::make::rng::Rng;
 
@@ -22,16 +22,9 @@ impl Frame {
         self.th.map_or(false, |th| t >= th + cycles)
     }
 
-    /// Who asked for an output, read from the bytes as they were sent.
-    fn askers(&self, run: &Run, output: usize) -> Vec<usize> {
-        let asks = |th: usize, i: usize| Header(run.inputs[th].bytes[i]).asks(output);
-        let asked = |i: &usize| self.th.map_or(false, |th| asks(th, *i));
-        (0..4).filter(asked).collect()
-    }
-
-    fn high(&self, run: &Run, input: usize) -> bool {
-        self.th
-            .map_or(false, |th| Header(run.inputs[th].bytes[input]).high())
+    /// The headers as they were sent.
+    fn headers(&self, run: &Run) -> Headers {
+        Headers(self.th.map_or([0; 4], |th| run.inputs[th].bytes))
     }
 
     fn winner(&self, run: &Run, output: usize) -> Option<usize> {
@@ -41,19 +34,18 @@ impl Frame {
     }
 }
 
-/// The only routing is two cycles after the header; each output asked for
-/// has a winner, one of its askers and a high one if there is any.
+/// The only routing is two cycles after the header, and there each output
+/// asked for has a winner, which is one of its askers.
 fn routing(run: &Run, frame: &Frame) -> Held {
     for t in frame.ts + 1..=frame.te + 1 {
         let due = frame.th.map_or(false, |th| t == th + 2);
         claim(run.reports[t].is_some() == due, "a routing when due", t, 0)?;
     }
     for o in 0..4 {
-        let askers = frame.askers(run, o);
-        let some_high = askers.iter().any(|&i| frame.high(run, i));
+        let left = frame.headers(run).foremost(o);
         let good = match frame.winner(run, o) {
-            Some(i) => askers.contains(&i) && frame.high(run, i) == some_high,
-            None => askers.is_empty(),
+            Some(i) => left.contains(&i),
+            None => left.is_empty(),
         };
         claim(good, "a winner among the askers", frame.ts, o)?;
     }
@@ -102,47 +94,45 @@ fn see(run: &Run, frame: &Frame, seen: &mut Seen) {
     seen.count("frame in cycle 0", ts == 0);
     seen.count("start in cycle ts-1", ts > 0 && run.inputs[ts - 1].start);
     seen.count("routing in cycle ts", run.reports[ts].is_some());
+    seen.count("active frame", th.is_some());
     seen.count("inactive frame", th.is_none());
     seen.count("te is th+3", th.map_or(false, |th| te == th + 3));
     for o in 0..4 {
-        let askers = frame.askers(run, o);
-        let highs = askers.iter().filter(|&&i| frame.high(run, i)).count();
-        let unasked = th.is_some() && askers.is_empty();
+        let headers = frame.headers(run);
+        let (all, left) = (headers.askers(o).len(), headers.foremost(o).len());
+        let unasked = th.is_some() && all == 0;
+        let told = run.inputs[te].acks[o];
         seen.count("output open in cycle ts", run.open(ts, o));
         seen.count("unasked output", unasked);
-        seen.count(
-            "unasked output acknowledged",
-            unasked && run.inputs[te].acks[o],
-        );
-        seen.count("contended output", askers.len() > 1);
-        seen.count("high over low", 0 < highs && highs < askers.len());
-        seen.count("acknowledged input", run.acked(te, o));
+        seen.count("unasked output acknowledged", unasked && told);
+        seen.count("contended output", all > 1);
+        seen.count("high over low", left < all);
+        seen.count("input acknowledged", run.acked(te, o));
     }
 }
 
-pub fn tape(number: usize) -> (Vec<u8>, Vec<Frame>) {
-    write(&mut Rng::for_work(1, 3, number))
+fn run(model: Model, number: usize) -> (Run, Vec<Frame>) {
+    let capture = write(&mut Rng::for_work(1, 3, number));
+    let run = Run::of(model, &capture);
+    let frames = frames(&run.inputs);
+    (run, frames)
 }
 
-/// The first frame of a tape for which a claim does not hold.
+/// A claim on all the frames of the tape with a number.
 pub fn tried(model: Model, claim: Claim, number: usize) -> Held {
-    let (capture, frames) = tape(number);
-    let run = Run::of(model, &capture);
+    let (run, frames) = run(model, number);
     frames.iter().try_for_each(|frame| claim(&run, frame))
 }
 
 #[test]
 fn frames_are_as_claimed() {
     let mut seen = Seen::default();
-    for number in 0..400 {
-        let (capture, frames) = tape(number);
-        let run = Run::of(RIGHT, &capture);
-        for frame in &frames {
-            for (name, claim) in CLAIMS {
-                assert_eq!(claim(&run, frame), Ok(()), "{name} on tape {number}");
-            }
-            see(&run, frame, &mut seen);
+    for number in 0..1_000 {
+        for (name, claim) in CLAIMS {
+            assert_eq!(tried(RIGHT, claim, number), Ok(()), "{name}, {number}");
         }
+        let (run, frames) = run(RIGHT, number);
+        frames.iter().for_each(|frame| see(&run, frame, &mut seen));
     }
-    seen.enough(11, 100);
+    seen.enough(12, 300);
 }
