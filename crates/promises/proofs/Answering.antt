@@ -31,8 +31,10 @@ use Rattle.capture.proofs.Records.{record-there}
 use Rattle.runs.specs.Run.{sent, holder}
 use Rattle.runs.specs.Showing.{before, shutTwoBefore, holderTwoBefore}
 use Rattle.runs.proofs.Accepting.{cycle-accepted, run-accepted, reset-accepted}
+use Rattle.runs.proofs.Winning.{winning}
 use Rattle.runs.proofs.Showing.{showing}
-use Rattle.promises.specs.Answered.{sentIn, replayRun, RecordsAreCycles, SingleCycles, HeadBytes}
+use Rattle.runs.proofs.Frames.{active-frames}
+use Rattle.promises.specs.Answered.{sentIn, replayRun, RecordsAreCycles, SingleCycles, HeadBytes, FrameBytes}
 use Rattle.promises.proofs.Joining.{replay-is-run}
 
 -- byte j of answer record k, in the answers of n cycles
@@ -139,3 +141,10 @@ head-bytes capture buffer e k o h l =
     held : (b : Bool) → cond b 0 (holder (replayRun resetMachine capture) (k - 2) o) < 4
     held true = lit< tt
     held false = held-at _ (run-accepted (replayRun resetMachine capture) reset-accepted (k - 2)) o l
+
+pub frame-bytes : FrameBytes
+frame-bytes m capture buffer e ts th te frame k o w h l from to wins =
+    let r = replayRun m capture in
+    records-are-cycles m capture buffer e k h .heads o l
+    ∙ active-frames r ts th te frame .heads .winner's k o w l from to wins
+    ∙ sym (byte-sent m capture buffer e (k - 4) (omega arith) w (winning r .winner-is (th + 2) w o l wins .is-input))

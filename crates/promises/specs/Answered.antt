@@ -3,7 +3,7 @@
 use mathlib.Core.Bool.{Bool, false, cond}
 use mathlib.Core.Path.{_≡_}
 use mathlib.Core.List.{List}
-use Prim.Native.Nat.{ℕ, _+_, _*_, _<_}
+use Prim.Native.Nat.{ℕ, _+_, _-_, _*_, _<_, _≤_}
 use lib.ListN.{length, getD}
 use Rattle.routing.specs.Four.{bitAt}
 use Rattle.fabric.specs.declared.cycle.Inputs.{Inputs}
@@ -15,6 +15,8 @@ use Rattle.capture.specs.Capture.{records, inputsIn}
 use Rattle.capture.specs.Refusal.{judged}
 use Rattle.capture.specs.Replay.{replayWrites}
 use Rattle.runs.specs.Run.{Run, runFrom, Accepted, sent, head, ack}
+use Rattle.runs.specs.Routing.{Wins}
+use Rattle.runs.specs.Frame.{ActiveFrame}
 use Rattle.runs.specs.Showing.{before, shutTwoBefore, holderTwoBefore}
 
 -- what stands in record k of a capture: the frame start, output o's acknowledgement, input i's byte
@@ -34,7 +36,7 @@ ackIn answers k i = bitAt i (byteAt answers (5 * k))
 abbrev pub headIn : List ℕ → ℕ → ℕ → ℕ
 headIn answers k o = byteAt answers (5 * k + 1 + o)
 
--- the run of a capture's records; what the buffer holds after the replay
+-- the run of a capture's records
 abbrev pub replayRun : Machine → List ℕ → Run
 replayRun m capture = runFrom m (inputsIn capture)
 
@@ -64,3 +66,11 @@ HeadBytes =
     → let r = replayRun resetMachine capture in
     headIn (replayWrites resetMachine capture buffer) k o
     ≡ cond (shutTwoBefore r k o) 0 (before 4 0 (λ j. sentIn capture j (holderTwoBefore r k o)) k)
+
+-- And inside an active frame of any replay: an output that was asked for shows the bytes that its winner sent four records before.
+abbrev pub FrameBytes : Type 0
+FrameBytes =
+    (m : Machine) (capture buffer : List ℕ) → judged (m .state) capture (length buffer) ≡ Done
+    → (ts th te : ℕ) → ActiveFrame (replayRun m capture) ts th te
+    → (k o w : ℕ) → k < records capture → o < 4 → th + 5 ≤ k → k ≤ te + 2 → Wins (replayRun m capture) (th + 2) w o
+    → headIn (replayWrites m capture buffer) k o ≡ sentIn capture (k - 4) w
