@@ -2,13 +2,12 @@
 use mathlib.Core.Bool.{Bool, true, false}
 use mathlib.Core.Path.{_≡_, refl, ap}
 use mathlib.Core.List.{List, _++_}
-use Prim.Native.Nat.{ℕ, _+_, _-_, _*_, _/_, _%_, _≤_, _<_}
+use Prim.Native.Nat.{ℕ, _*_, _/_, _%_, _≤_, _<_}
 use native.Mathlib.Omega.{arith}
 use lib.Dec.{eqb, ltb}
-use lib.ListN.{length, take, drop, length-append, length-drop, length-replicate}
+use lib.ListN.{length, drop, length-append, length-drop, length-replicate}
 use borrow.Author.Tests.{eqb-true, eqb-false, ltb-true, ltb-false}
 use Rattle.text.specs.Ascii.{ascii}
-use Rattle.text.specs.Page.{page, Wrote}
 use Rattle.text.specs.Digits.{decimalIn, decimal}
 use Rattle.text.proofs.Decimals.{few-digits}
 use Rattle.text.proofs.Room.{all-there}
@@ -23,7 +22,7 @@ use Rattle.listing.specs.Listing.{listing}
 use Rattle.listing.specs.Refusal.{refusalLine}
 use Rattle.listing.proofs.Sizes.{listing-size}
 use Rattle.comparison.specs.Verdict.{outcomeText}
-use Rattle.comparison.specs.Both.{zeros, printed}
+use Rattle.comparison.specs.Both.{zeros, printed, PrintedFits, AllPrinted}
 use Rattle.comparison.proofs.Whole.{printed-by, bytes-left, too-many}
 
 module _ (capture : List ℕ) where
@@ -75,10 +74,8 @@ module _ (capture : List ℕ) where
   by-rest false e =
       let l : length (printed capture) ≡ 10 = ap length (bytes-left capture (eqb-false _ _ e)) in omega (arith, l)
 
-  pub printed-fits : length (printed capture) ≤ 262144
-  printed-fits = by-rest (eqb (length capture % 5) 0) refl
+pub printed-fits : PrintedFits
+printed-fits capture = by-rest capture (eqb (length capture % 5) 0) refl
 
-  -- a page of that size holds all of it from its start on
-  pub all-printed : {bytes after : List ℕ} {n : ℕ} → 262144 ≤ length bytes → Wrote (page bytes 0) (printed capture) (page after n)
-      → (n ≡ length (printed capture)) × (take n after ≡ printed capture)
-  all-printed room w = all-there w (omega (arith, room, printed-fits))
+pub all-printed : AllPrinted
+all-printed capture bytes after n room w = all-there w (omega (arith, room, printed-fits capture))

@@ -18,7 +18,7 @@ use Rattle.capture.specs.Replay.{replayedAs, writtenAs}
 use Rattle.capture.proofs.Fates.{number-1, number-4, refused-early}
 use Rattle.listing.specs.Refusal.{refusalLine}
 use Rattle.comparison.specs.Verdict.{outcomeText}
-use Rattle.comparison.specs.Both.{zeros, keptLength, kept, printed}
+use Rattle.comparison.specs.Both.{zeros, keptLength, kept, printed, WholeInput}
 use Rattle.comparison.proofs.Inputs.{kept-long, kept-whole}
 
 module _ (capture : List ℕ) where
@@ -69,5 +69,5 @@ module _ (whole : List ℕ) where
       let is : length whole ≡ n = kept-whole (length whole) fits in
       ap printed (ap (take n) (take-all 65536 whole fits) ∙ take-all n whole (omega (arith, is)))
 
-  pub whole-input : printed (kept start (length whole)) ≡ printed whole
-  whole-input = by-size (ltb 65536 (length whole)) refl
+pub whole-input : WholeInput
+whole-input whole = by-size whole (ltb 65536 (length whole)) refl

@@ -1,11 +1,13 @@
 -- An input of any size from reset. Its first 65,536 bytes are kept and the rest is counted.
 use mathlib.Core.Bool.{cond}
+use mathlib.Core.Path.{_≡_}
 use mathlib.Core.List.{List}
-use Prim.Native.Nat.{ℕ, _+_, _%_}
+use Prim.Native.Nat.{ℕ, _+_, _%_, _≤_}
 use lib.Dec.{ltb}
 use lib.ListN.{length, take, replicate}
 use Rattle.fabric.specs.Run.{resetMachine}
 use Rattle.capture.specs.Replay.{replayOf, replayWrites}
+use Rattle.text.specs.Page.{page, Wrote}
 use Rattle.text.specs.declared.difference.Difference.{Difference}
 use Rattle.comparison.specs.Agreement.{disagreementOf}
 use Rattle.comparison.specs.Verdict.{outcomeText, verdictText}
@@ -32,3 +34,16 @@ keptLength n = cond (ltb 65536 n) (65530 + n % 5) n
 
 abbrev pub kept : List ℕ → ℕ → List ℕ
 kept bytes n = take (keptLength n) bytes
+
+-- What is printed of the kept bytes is what would be printed of the whole input.
+abbrev pub WholeInput : Type 0
+WholeInput = (whole : List ℕ) → printed (kept (take 65536 whole) (length whole)) ≡ printed whole
+
+-- What is printed fits onto the program's page of 262,144 bytes, so all of it stands there.
+abbrev pub PrintedFits : Type 0
+PrintedFits = (capture : List ℕ) → length (printed capture) ≤ 262144
+
+abbrev pub AllPrinted : Type 0
+AllPrinted =
+    (capture bytes after : List ℕ) (n : ℕ) → 262144 ≤ length bytes → Wrote (page bytes 0) (printed capture) (page after n)
+    → (n ≡ length (printed capture)) × (take n after ≡ printed capture)

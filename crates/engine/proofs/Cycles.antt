@@ -1,4 +1,4 @@
--- The gate engine's cycle is rules 1 to 7, for every state whose holders are inputs' numbers, and the next state's holders are again. Assumes nothing.
+-- The gate engine's cycle is rules 1 to 7, and leaves holders that are inputs' numbers. Assumes nothing.
 use mathlib.Core.Bool.{Bool}
 use mathlib.Core.Path.{_≡_}
 use mathlib.Core.List.{List}
@@ -7,11 +7,10 @@ use lib.Dec.{lit<}
 use Rattle.states.specs.declared.state.State.{State}
 use Rattle.fabric.specs.declared.cycle.Inputs.{Inputs}
 use Rattle.states.specs.State.{holderAt, Held, firstRow, secondRow, switchRow}
-use Rattle.fabric.specs.Cycle.{Machine, shown, stateAfter, rowsAfter, stepOf}
+use Rattle.fabric.specs.Cycle.{Machine, shown, stateAfter, rowsAfter}
 use Rattle.fabric.proofs.Steps.{holder-below}
-use Rattle.records.specs.Record.{Bytes}
 use Rattle.engine.specs.declared.cycle.GateCycled.{GateCycled}
-use Rattle.engine.specs.Cycle.{gateStepOf, unreported}
+use Rattle.engine.specs.Cycle.{GatesAreRules}
 use Rattle.engine.proofs.Control.{next-state}
 use Rattle.engine.proofs.Choices.{acks-made, switch-made}
 
@@ -30,7 +29,7 @@ parts m i acks state switched = record {
 pub parts-of : (m : Machine) (i : Inputs) {a a' : List Bool} {s s' : State} {w w' : List ℕ} → a ≡ a' → s ≡ s' → w ≡ w' → parts m i a s w ≡ parts m i a' s' w'
 parts-of m i p q r = cc
 
-pub gates-are-rules : (m : Machine) (i : Inputs) → Bytes (secondRow (m .rows)) → Held (m .state) → gateStepOf m i ≡ unreported (stepOf m i)
+pub gates-are-rules : GatesAreRules
 unfolding rowsAfter
 gates-are-rules m i bytes held =
     parts-of m i (acks-made (m .state) held (i .acks)) (next-state (m .state) (secondRow (m .rows)) (i .frame) held)

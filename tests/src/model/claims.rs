@@ -2,7 +2,7 @@
 //! of what was seen in it.
 
 use super::cycle::{Inputs, Routing, RECORD};
-use super::state::{State, SECOND};
+use super::state::State;
 use super::{Model, DONE};
 use std::collections::BTreeMap;
 
@@ -58,8 +58,11 @@ impl Run {
         usize::from(self.states[t].holder[output])
     }
 
+    /// What the second latches have to hold: the bytes of two cycles before.
+    /// The latches are not asked, for they could be late.
     pub fn headers(&self, t: usize) -> Headers {
-        Headers(self.states[t].rows[SECOND])
+        let sent = t.checked_sub(2).map(|t| self.inputs[t].bytes);
+        Headers(sent.unwrap_or([0; 4]))
     }
 }
 

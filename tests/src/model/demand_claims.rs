@@ -52,6 +52,7 @@ fn opening(run: &Run) -> Held {
             let (open, then) = (run.open(t, o), run.open(t + 1, o));
             let asked = !run.headers(t).askers(o).is_empty();
             let opens = routed && asked && !start;
+            claim(!(open && t == 0), "all are shut at reset", t, o)?;
             claim(!(open && routed), "all are shut at a routing", t, o)?;
             claim(open || then == opens, "opens when it should", t, o)?;
             claim(!open || then != start, "shuts on a start alone", t, o)?;
