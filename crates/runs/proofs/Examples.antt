@@ -14,7 +14,8 @@ use Rattle.fabric.specs.Cycle.{stateAfter, rowsAfter}
 use Rattle.fabric.specs.Run.{runOf}
 use Rattle.runs.specs.Run.{NoneActiveAt, holder}
 use Rattle.runs.specs.Routing.{InHighestClass, routingsBefore, KthRouting}
-use Rattle.runs.specs.Examples.{worked, WorkedFrame, crowd, ThreeAreNotEnough}
+use Rattle.runs.proofs.Frames.{active-frames}
+use Rattle.runs.specs.Examples.{worked, WorkedFrame, ThePoint, crowd, ThreeAreNotEnough}
 
 worked-quiet : (t : ℕ) → 0 ≤ t → t < 2 → NoneActiveAt worked t
 worked-quiet zero l h = refl
@@ -40,6 +41,9 @@ worked-frame = record {
   won-1 = record { routing = refl; asked = record { by = 1; is-input = lit< tt; asks = refl }; new-holder = refl };
   won-3 = record { routing = refl; asked = record { by = 2; is-input = lit< tt; asks = refl }; new-holder = refl };
 }
+
+pub the-point : ThePoint
+the-point = active-frames worked 0 2 11 (worked-frame .active) .heads .winner's 8 1 1 (lit< tt) (lit≤ tt) (lit≤ tt) (worked-frame .won-1)
 
 -- ---- the crowd
 

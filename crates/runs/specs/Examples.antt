@@ -1,5 +1,6 @@
 -- The words are met: document 01's replay holds a well-formed frame, and three routings in a row are not enough.
 use mathlib.Core.Bool.{true, false, _||_}
+use mathlib.Core.Path.{_≡_}
 use mathlib.Core.List.{List, [], _∷_}
 use Prim.Native.Nat.{ℕ, _+_, _<_}
 use lib.Dec.{eqb}
@@ -8,7 +9,7 @@ use Rattle.routing.specs.Four.{four}
 use Rattle.states.specs.State.{zeroRow}
 use Rattle.fabric.specs.declared.cycle.Inputs.{Inputs}
 use Rattle.fabric.specs.Run.{resetMachine}
-use Rattle.runs.specs.Run.{Run, runFrom, FromReset}
+use Rattle.runs.specs.Run.{Run, runFrom, FromReset, head}
 use Rattle.runs.specs.Routing.{InHighestClass, Wins}
 use Rattle.runs.specs.Routings.{InARow}
 use Rattle.runs.specs.Frame.{ActiveFrame}
@@ -35,6 +36,10 @@ pub record WorkedFrame : Type 0 where
   pub active : ActiveFrame worked 0 2 11
   pub won-1 : Wins worked (2 + 2) 1 1
   pub won-3 : Wins worked (2 + 2) 2 3
+
+-- so the theorem about frames gives each byte of its heads; here the point of 2.5, at head 1 in cycle 8
+abbrev pub ThePoint : Type 0
+ThePoint = head worked 8 1 ≡ 0x2E
 
 -- An input that asks for an output at three routings in a row, each time in the highest class asking, and wins none of them.
 pub record NoneOfThree (r : Run) : Type 0 where
