@@ -34,7 +34,7 @@ use Rattle.runs.proofs.Accepting.{cycle-accepted, run-accepted, reset-accepted}
 use Rattle.runs.proofs.Winning.{winning}
 use Rattle.runs.proofs.Showing.{showing}
 use Rattle.runs.proofs.Frames.{active-frames}
-use Rattle.promises.specs.Answered.{sentIn, replayRun, RecordsAreCycles, SingleCycles, HeadBytes, FrameBytes}
+use Rattle.promises.specs.Answered.{acknowledgedIn, sentIn, replayRun, RecordIsCycle, RecordsAreCycles, SingleCycles, HeadBytes, FrameBytes}
 use Rattle.promises.proofs.Joining.{replay-is-run}
 
 -- byte j of answer record k, in the answers of n cycles
@@ -96,26 +96,20 @@ module _ (m : Machine) (capture buffer : List ℕ) (is-done : judged (m .state) 
       let d = bit-le (acks 3) in
       omega (arith, first-byte)
 
+  record-is-cycle : RecordIsCycle m capture buffer k
+  record-is-cycle = record {
+    start = sym (ap (λ (i : Inputs). i .frame) read);
+    acknowledged = λ o l. sym (ap (λ (i : Inputs). getD (i .acks) o false) read ∙ at-four (acknowledgedIn capture k) false o l);
+    bytes = byte-sent;
+    acks = λ i l. ap (bitAt i) first-byte ∙ in-mask acks i l ∙ at-four (acked (runOf m ins k .state) (ins k .acks)) false i l;
+    zeros = small;
+    heads = λ o l.
+        let place : 5 * k + 1 + o ≡ 5 * k + suc o = omega arith in
+        ap (byteAt (replayWrites m capture buffer)) place ∙ written (suc o) (omega arith) ∙ at-four (byteAt (shown (runOf m ins k))) 0 o l;
+  }
+
 pub records-are-cycles : RecordsAreCycles
-records-are-cycles m capture buffer e k h =
-    let shows = replayWrites m capture buffer in
-    let now = runOf m (inputsIn capture) k in
-    record {
-      start = sym (ap (λ (i : Inputs). i .frame) (read m capture buffer e k h));
-      acknowledged = λ o l.
-          sym (ap (λ (i : Inputs). getD (i .acks) o false) (read m capture buffer e k h) ∙ at-four (λ o. bitAt o (byteAt capture (5 * k))) false o l);
-      bytes = byte-sent m capture buffer e k h;
-      acks = λ i l.
-          ap (bitAt i) (first-byte m capture buffer e k h)
-          ∙ in-mask (acks m capture buffer e k h) i l
-          ∙ at-four (acked (now .state) (inputsIn capture k .acks)) false i l;
-      zeros = small m capture buffer e k h;
-      heads = λ o l.
-          let place : 5 * k + 1 + o ≡ 5 * k + suc o = omega arith in
-          ap (byteAt shows) place
-          ∙ written m capture buffer e k h (suc o) (omega arith)
-          ∙ at-four (byteAt (shown now)) 0 o l;
-    }
+records-are-cycles = record-is-cycle
 
 pub single-cycles : SingleCycles
 single-cycles m i ok =

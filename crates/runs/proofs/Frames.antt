@@ -11,7 +11,7 @@ use Rattle.routing.specs.Header.{someActive, asks}
 use Rattle.routing.proofs.Fours.{not-both, yes-unless}
 use Rattle.runs.specs.Run.{Run, NoFrameStartAt, ack, holder, Shut, Open, headersAt}
 use Rattle.runs.specs.Routing.{RoutingAt, NoRoutingAt, AskedFor}
-use Rattle.runs.specs.Frame.{ActiveFrame, FromWon, ActiveFrames, InactiveFrame, InactiveFrames}
+use Rattle.runs.specs.Frame.{ActiveFrame, FromWon, ActiveShows, ActiveFrames, InactiveFrame, InactiveShows, InactiveFrames}
 use Rattle.runs.proofs.Cycles.{waits-started, runs-routed, holder-kept, holder-unasked, shut-started, shut-unasked, open-asked, second-two}
 use Rattle.runs.proofs.Askers.{asked-for, is-asked, not-asked, by-nobody}
 use Rattle.runs.proofs.Stretches.{head-shut, head-open, ack-none, ack-from, ack-to, running-no-routing, quiet-no-routing, Same, stretch}
@@ -23,6 +23,9 @@ up-to P e last t p q = go (eq-or-lt-of-le q)
     go : (t ≡ e + 1) ⊎ (t < e + 1) → P t
     go (inl same) = let f : suc e ≡ t = omega arith in subst P f last
     go (inr less) = p (omega arith)
+
+next-is : (r : Run) (t o : ℕ) → holder r (suc t) o ≡ holder r (t + 1) o
+next-is r t o = let e : suc t ≡ t + 1 = omega arith in ap (λ (k : ℕ). holder r k o) e
 
 -- ---- inactive
 
@@ -44,15 +47,15 @@ module _ (r : Run) (ts te : ℕ) (a : InactiveFrame r ts te) where
       up-to (λ (k : ℕ). holder r k o ≡ holder r (suc ts) o) te (holder-kept r te o l (no-routing te n (omega arith)) ∙ same te n (omega arith) .held o l) t
       (λ q. same t p q .held o l)
 
-next-is : (r : Run) (t o : ℕ) → holder r (suc t) o ≡ holder r (t + 1) o
-next-is r t o = let e : suc t ≡ t + 1 = omega arith in ap (λ (k : ℕ). holder r k o) e
+  inactive-shows : InactiveShows r ts te
+  inactive-shows = record {
+    heads = λ t o l p q. head-shut r t (t - 2) o l (omega arith) (shut (t - 2) o l (omega arith) (omega arith));
+    acks = λ t i p q. ack-none r t i (λ o l. shut t o l (omega arith) (omega arith));
+    holders = λ t o l p q. held t o l (omega arith) q ∙ next-is r ts o;
+  }
 
 pub inactive-frames : InactiveFrames
-inactive-frames r ts te a = record {
-  heads = λ t o l p q. head-shut r t (t - 2) o l (omega arith) (shut r ts te a (t - 2) o l (omega arith) (omega arith));
-  acks = λ t i p q. ack-none r t i (λ o l. shut r ts te a t o l (omega arith) (omega arith));
-  holders = λ t o l p q. held r ts te a t o l (omega arith) q ∙ next-is r ts o;
-}
+inactive-frames = inactive-shows
 
 -- ---- active
 
@@ -134,35 +137,38 @@ module _ (r : Run) (ts th te : ℕ) (a : ActiveFrame r ts th te) where
         acknowledged = w .acknowledged;
       })
 
+  active-shows : ActiveShows r ts th te
+  active-shows = record {
+    routing = record {
+      happens = happens;
+      headers = λ i o.
+          let e = ap (λ (row : List ℕ). asks o (getD row i 0)) headers-are in (λ x. sym e ∙ x, λ x. e ∙ x);
+    };
+    heads = record {
+      zero-first = λ t o l p q. head-shut r t (t - 2) o l (omega arith) (waiting-shut (t - 2) o l (omega arith) (omega arith));
+      winner's = λ t o w l p q k.
+          let s = running-same (t - 2) (omega arith) (omega arith) in
+          head-open r t (t - 2) o l (omega arith) (t - 4) (omega arith) (s .shut o l ∙ asked-open o l (k .asked))
+          ∙ ap (λ (i : ℕ). getD (r .ins (t - 4) .bytes) i 0) (s .held o l ∙ k .new-holder);
+      unasked = λ t o l p q n.
+          let s = running-same (t - 2) (omega arith) (omega arith) in
+          head-shut r t (t - 2) o l (omega arith) (s .shut o l ∙ unasked-shut o l n);
+      zero-last = λ o l. head-shut r (te + 3) (suc te) o l (omega arith) (shut-started r te o l (a .frame .next));
+    };
+    acks = record {
+      zero-first = λ t i p q. ack-none r t i (λ o l. waiting-shut t o l (omega arith) q);
+      from-won = λ t i p q. (acks-from t i p q, acks-to t i p q);
+    };
+    holders = record {
+      unchanged = λ t o l p q. waiting-same t (omega arith) q .held o l ∙ next-is r ts o;
+      winner = λ t o w l p q k. running-held t o l (omega arith) q ∙ k .new-holder;
+      unasked = λ t o l p q n.
+          running-held t o l (omega arith) q
+          ∙ holder-unasked r tr o l happens (not-asked r tr o n)
+          ∙ waiting-same tr ordered (omega arith) .held o l
+          ∙ next-is r ts o;
+    };
+  }
+
 pub active-frames : ActiveFrames
-active-frames r ts th te a = record {
-  routing = record {
-    happens = happens r ts th te a;
-    headers = λ i o.
-        let e = ap (λ (row : List ℕ). asks o (getD row i 0)) (headers-are r ts th te a) in (λ x. sym e ∙ x, λ x. e ∙ x);
-  };
-  heads = record {
-    zero-first = λ t o l p q. head-shut r t (t - 2) o l (omega arith) (waiting-shut r ts th te a (t - 2) o l (omega arith) (omega arith));
-    winner's = λ t o w l p q k.
-        let s = running-same r ts th te a (t - 2) (omega arith) (omega arith) in
-        head-open r t (t - 2) o l (omega arith) (t - 4) (omega arith) (s .shut o l ∙ asked-open r ts th te a o l (k .asked))
-        ∙ ap (λ (i : ℕ). getD (r .ins (t - 4) .bytes) i 0) (s .held o l ∙ k .new-holder);
-    unasked = λ t o l p q n.
-        let s = running-same r ts th te a (t - 2) (omega arith) (omega arith) in
-        head-shut r t (t - 2) o l (omega arith) (s .shut o l ∙ unasked-shut r ts th te a o l n);
-    zero-last = λ o l. head-shut r (te + 3) (suc te) o l (omega arith) (shut-started r te o l (a .frame .next));
-  };
-  acks = record {
-    zero-first = λ t i p q. ack-none r t i (λ o l. waiting-shut r ts th te a t o l (omega arith) q);
-    from-won = λ t i p q. (acks-from r ts th te a t i p q, acks-to r ts th te a t i p q);
-  };
-  holders = record {
-    unchanged = λ t o l p q. waiting-same r ts th te a t (omega arith) q .held o l ∙ next-is r ts o;
-    winner = λ t o w l p q k. running-held r ts th te a t o l (omega arith) q ∙ k .new-holder;
-    unasked = λ t o l p q n.
-        running-held r ts th te a t o l (omega arith) q
-        ∙ holder-unasked r (th + 2) o l (happens r ts th te a) (not-asked r (th + 2) o n)
-        ∙ waiting-same r ts th te a (th + 2) (ordered r ts th te a) (omega arith) .held o l
-        ∙ next-is r ts o;
-  };
-}
+active-frames = active-shows

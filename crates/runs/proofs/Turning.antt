@@ -1,6 +1,6 @@
 -- The turn, counted in steps from the holder: who is first in turn, and how far others are from their turn after it. Assumes nothing.
 use mathlib.Core.Bool.{Bool, true, false, cond}
-use mathlib.Core.Path.{_≡_, refl, sym, ap, _∙_}
+use mathlib.Core.Path.{_≡_, refl, sym, ap, subst, _∙_}
 use mathlib.Core.Logic.{_⊎_, inl, inr}
 use Prim.Native.Nat.{ℕ, zero, suc, _+_, _-_, _%_, _<_, _≤_}
 use native.Mathlib.Omega.{arith}
@@ -17,34 +17,30 @@ pub record FirstAfter (f : ℕ → Bool) (h w : ℕ) : Type 0 where
   pub reached : w ≡ (h + steps) % 4
   pub passed-over : (k : ℕ) → 1 ≤ k → k < steps → f ((h + k) % 4) ≡ false
 
-pub first-after : (f : ℕ → Bool) (h : ℕ) → FirstAfter f h (inTurn f h)
-unfolding inTurn
-first-after f h = go (f ((h + 1) % 4)) (f ((h + 2) % 4)) (f ((h + 3) % 4)) refl refl refl
-  where
-    go : (a b c : Bool) → f ((h + 1) % 4) ≡ a → f ((h + 2) % 4) ≡ b → f ((h + 3) % 4) ≡ c
-        → FirstAfter f h (cond a ((h + 1) % 4) (cond b ((h + 2) % 4) (cond c ((h + 3) % 4) (h % 4))))
-    go true b c p q s = record { steps = 1; from-one = omega arith; to-four = omega arith; reached = refl; passed-over = λ k lo hi. absurd (omega arith) }
-    go false true c p q s = record { steps = 2; from-one = omega arith; to-four = omega arith; reached = refl; passed-over = over }
-      where
-        over : (k : ℕ) → 1 ≤ k → k < 2 → f ((h + k) % 4) ≡ false
-        over zero lo hi = absurd (omega arith)
-        over (suc zero) lo hi = p
-        over (suc (suc k)) lo hi = absurd (omega arith)
-    go false false true p q s = record { steps = 3; from-one = omega arith; to-four = omega arith; reached = refl; passed-over = over }
-      where
-        over : (k : ℕ) → 1 ≤ k → k < 3 → f ((h + k) % 4) ≡ false
-        over zero lo hi = absurd (omega arith)
-        over (suc zero) lo hi = p
-        over (suc (suc zero)) lo hi = q
-        over (suc (suc (suc k))) lo hi = absurd (omega arith)
-    go false false false p q s = record { steps = 4; from-one = omega arith; to-four = omega arith; reached = omega arith; passed-over = over }
-      where
-        over : (k : ℕ) → 1 ≤ k → k < 4 → f ((h + k) % 4) ≡ false
-        over zero lo hi = absurd (omega arith)
-        over (suc zero) lo hi = p
-        over (suc (suc zero)) lo hi = q
-        over (suc (suc (suc zero))) lo hi = s
-        over (suc (suc (suc (suc k)))) lo hi = absurd (omega arith)
+module _ (f : ℕ → Bool) (h : ℕ) where
+  -- n steps on, where those before are not named
+  counted : (n : ℕ) → 1 ≤ n → n ≤ 4 → (1 < n → f ((h + 1) % 4) ≡ false) → (2 < n → f ((h + 2) % 4) ≡ false) → (3 < n → f ((h + 3) % 4) ≡ false)
+      → FirstAfter f h ((h + n) % 4)
+  counted n from to p q s = record { steps = n; from-one = from; to-four = to; reached = refl; passed-over = over }
+    where
+      over : (k : ℕ) → 1 ≤ k → k < n → f ((h + k) % 4) ≡ false
+      over zero lo hi = absurd (omega arith)
+      over (suc zero) lo hi = p hi
+      over (suc (suc zero)) lo hi = q hi
+      over (suc (suc (suc zero))) lo hi = s hi
+      over (suc (suc (suc (suc k)))) lo hi = absurd (omega arith)
+
+  pub first-after : FirstAfter f h (inTurn f h)
+  unfolding inTurn
+  first-after = go (f ((h + 1) % 4)) (f ((h + 2) % 4)) (f ((h + 3) % 4)) refl refl refl
+    where
+      go : (a b c : Bool) → f ((h + 1) % 4) ≡ a → f ((h + 2) % 4) ≡ b → f ((h + 3) % 4) ≡ c
+          → FirstAfter f h (cond a ((h + 1) % 4) (cond b ((h + 2) % 4) (cond c ((h + 3) % 4) (h % 4))))
+      go true b c p q s = counted 1 (omega arith) (omega arith) (λ l. absurd (omega arith)) (λ l. absurd (omega arith)) (λ l. absurd (omega arith))
+      go false true c p q s = counted 2 (omega arith) (omega arith) (λ l. p) (λ l. absurd (omega arith)) (λ l. absurd (omega arith))
+      go false false true p q s = counted 3 (omega arith) (omega arith) (λ l. p) (λ l. q) (λ l. absurd (omega arith))
+      go false false false p q s =
+          let round : (h + 4) % 4 ≡ h % 4 = omega arith in subst (FirstAfter f h) round (counted 4 (omega arith) (omega arith) (λ l. p) (λ l. q) (λ l. s))
 
 -- input i comes d steps after h
 pub record Ahead (h i d : ℕ) : Type 0 where
