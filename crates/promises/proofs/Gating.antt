@@ -1,46 +1,57 @@
 -- A run by gates is a run by the rules. Assumes nothing.
 use mathlib.Core.Path.{_≡_, refl, sym, ap, subst, _∙_}
-use mathlib.Core.List.{[], _∷_}
-use Prim.Native.Nat.{ℕ, zero, suc}
-use Rattle.states.specs.State.{firstRow, secondRow}
+use Prim.Native.Nat.{ℕ, zero, suc, _<_}
+use lib.Dec.{lit<}
+use Rattle.states.specs.State.{zeroRow}
 use Rattle.states.proofs.States.{held}
 use Rattle.fabric.specs.declared.cycle.Inputs.{Inputs}
-use Rattle.fabric.specs.Cycle.{Machine, machine, rowsAfter, stepped}
+use Rattle.fabric.specs.Cycle.{Machine, rowsAfter, stepped, stepOf}
+use Rattle.fabric.specs.Run.{resetMachine}
 use Rattle.records.specs.Record.{Bytes}
-use Rattle.engine.specs.declared.cycle.GateCycled.{GateCycled}
+use Rattle.engine.specs.Cycle.{gateStepOf, unreported}
 use Rattle.engine.proofs.Cycles.{gates-are-rules}
-use Rattle.runs.specs.Run.{Run, Accepted}
-use Rattle.runs.proofs.Accepting.{cycle-accepted}
+use Rattle.runs.specs.Run.{Run}
+use Rattle.runs.proofs.Accepting.{reset-accepted, cycle-accepted}
+use Rattle.runs.proofs.Showing.{zero-row}
 use Rattle.runs.proofs.Demand.{demand-3}
-use Rattle.promises.specs.Gates.{gateStepped, GateRun, OfBytes, GatesByRules, GatesDemandThree}
+use Rattle.promises.specs.Gates.{machineLeft, GateRun, SendsBytes, Fit, GatesByRules, GatesDemandThree}
 
-record Fit (m : Machine) : Type 0 where
-  accepted : Accepted (m .state)
-  first : Bytes (firstRow (m .rows))
-  second : Bytes (secondRow (m .rows))
+module _ (m : Machine) (i : Inputs) (f : Fit m) where
+  same-answer : gateStepOf m i ≡ unreported (stepOf m i)
+  same-answer = gates-are-rules m i (f .second) (held (m .state) (f .accepted))
 
-abbrev left : GateCycled → Machine
-left c = machine (c .state) (c .first ∷ c .second ∷ c .switched ∷ c .heads ∷ [])
+  same-step : machineLeft (gateStepOf m i) ≡ stepped m i
+  unfolding rowsAfter
+  same-step = ap machineLeft same-answer
 
-same-step : (m : Machine) (i : Inputs) → Fit m → gateStepped m i ≡ stepped m i
-unfolding rowsAfter
-same-step m i f = ap left (gates-are-rules m i (f .second) (held (m .state) (f .accepted)))
+  next-fit : Bytes (i .bytes) → Fit (stepped m i)
+  unfolding rowsAfter
+  next-fit b = record { accepted = cycle-accepted m i (f .accepted); first = b; second = f .first }
 
-next-fit : (m : Machine) (i : Inputs) → Bytes (i .bytes) → Fit m → Fit (stepped m i)
-unfolding rowsAfter
-next-fit m i b f = record { accepted = cycle-accepted m i (f .accepted); first = b; second = f .first }
-
-module _ (g : GateRun) (ok : OfBytes g) where
+module _ (g : GateRun) (bytes : SendsBytes g) (start : Fit (g .at 0)) where
   fit : (t : ℕ) → Fit (g .at t)
-  fit zero = record { accepted = ok .accepted; first = ok .first; second = ok .second }
-  fit (suc t) = subst Fit (sym (g .steps t ∙ same-step (g .at t) (g .ins t) (fit t))) (next-fit (g .at t) (g .ins t) (ok .sent t) (fit t))
+  fit zero = start
+  fit (suc t) = subst Fit (sym (g .steps t ∙ same-step (g .at t) (g .ins t) (fit t))) (next-fit (g .at t) (g .ins t) (fit t) (bytes t))
 
   by-rules : Run
   by-rules = record { at = g .at; ins = g .ins; steps = λ t. g .steps t ∙ same-step (g .at t) (g .ins t) (fit t) }
 
 pub gates-by-rules : GatesByRules
 unfolding by-rules
-gates-by-rules g ok = record { run = by-rules g ok; same-machines = λ t. refl; same-inputs = λ t. refl }
+gates-by-rules g bytes start = record {
+  run = by-rules g bytes start;
+  same-machines = λ t. refl;
+  same-inputs = λ t. refl;
+  same-answers = λ t. same-answer (g .at t) (g .ins t) (fit g bytes start t);
+}
+
+reset-fit : Fit resetMachine
+reset-fit = record { accepted = reset-accepted; first = zeros; second = zeros }
+  where
+    zeros : Bytes zeroRow
+    zeros k = subst (λ (n : ℕ). n < 256) (sym (zero-row k)) (lit< tt)
 
 pub gates-demand-3 : GatesDemandThree
-gates-demand-3 g ok start = let same = gates-by-rules g ok in record { by-rules = same; demand = demand-3 (same .run) (same .same-machines 0 ∙ start) }
+gates-demand-3 g bytes start =
+    let same = gates-by-rules g bytes (subst Fit (sym start) reset-fit) in
+    record { by-rules = same; demand = demand-3 (same .run) (same .same-machines 0 ∙ start) }

@@ -1,41 +1,46 @@
--- A run by gates is a run by the rules, so whatever is said of runs is said of the gate engine.
+-- A run by gates is a run by the rules, and shows the same, so whatever is said of runs is said of the gate engine.
 use mathlib.Core.Path.{_≡_}
 use mathlib.Core.List.{[], _∷_}
 use Prim.Native.Nat.{ℕ, suc}
 use Rattle.states.specs.State.{firstRow, secondRow}
 use Rattle.fabric.specs.declared.cycle.Inputs.{Inputs}
-use Rattle.fabric.specs.Cycle.{Machine, machine}
+use Rattle.fabric.specs.Cycle.{Machine, machine, stepOf}
 use Rattle.fabric.specs.Run.{resetMachine}
 use Rattle.records.specs.Record.{Bytes}
-use Rattle.engine.specs.Cycle.{gateStepOf}
+use Rattle.engine.specs.declared.cycle.GateCycled.{GateCycled}
+use Rattle.engine.specs.Cycle.{gateStepOf, unreported}
 use Rattle.runs.specs.Run.{Run, Accepted}
 use Rattle.runs.specs.Demand.{Demand}
 
--- the machine that a cycle by gates leaves, over the meaning of the gate words
-abbrev pub gateStepped : Machine → Inputs → Machine
-gateStepped m i =
-    let c = gateStepOf m i in machine (c .state) (c .first ∷ c .second ∷ c .switched ∷ c .heads ∷ [])
+-- the machine that a cycle by gates leaves
+abbrev pub machineLeft : GateCycled → Machine
+machineLeft c = machine (c .state) (c .first ∷ c .second ∷ c .switched ∷ c .heads ∷ [])
 
+-- A run by gates: each machine is what the cycle before it leaves, over the meaning of the gate words.
 pub record GateRun : Type 0 where
   pub at : ℕ → Machine
   pub ins : ℕ → Inputs
-  pub steps : (t : ℕ) → at (suc t) ≡ gateStepped (at t) (ins t)
+  pub steps : (t : ℕ) → at (suc t) ≡ machineLeft (gateStepOf (at t) (ins t))
 
--- it starts from a state that is accepted, and what its latches hold and its inputs send are bytes
-pub record OfBytes (g : GateRun) : Type 0 where
-  pub accepted : Accepted (g .at 0 .state)
-  pub first : Bytes (firstRow (g .at 0 .rows))
-  pub second : Bytes (secondRow (g .at 0 .rows))
-  pub sent : (t : ℕ) → Bytes (g .ins t .bytes)
+-- every input sends bytes
+abbrev pub SendsBytes : GateRun → Type 0
+SendsBytes g = (t : ℕ) → Bytes (g .ins t .bytes)
 
--- the run by the rules that has the same machines and the same inputs
+-- the state is accepted, and the latches hold bytes
+pub record Fit (m : Machine) : Type 0 where
+  pub accepted : Accepted (m .state)
+  pub first : Bytes (firstRow (m .rows))
+  pub second : Bytes (secondRow (m .rows))
+
+-- the run by the rules that has the same machines and the same inputs, and answers the same in every cycle
 pub record ByRules (g : GateRun) : Type 0 where
   pub run : Run
   pub same-machines : (t : ℕ) → run .at t ≡ g .at t
   pub same-inputs : (t : ℕ) → run .ins t ≡ g .ins t
+  pub same-answers : (t : ℕ) → gateStepOf (g .at t) (g .ins t) ≡ unreported (stepOf (run .at t) (run .ins t))
 
 abbrev pub GatesByRules : Type 0
-GatesByRules = (g : GateRun) → OfBytes g → ByRules g
+GatesByRules = (g : GateRun) → SendsBytes g → Fit (g .at 0) → ByRules g
 
 -- Demand 3, of the gate engine from reset.
 pub record GateDemand (g : GateRun) : Type 0 where
@@ -43,4 +48,4 @@ pub record GateDemand (g : GateRun) : Type 0 where
   pub demand : Demand (by-rules .run)
 
 abbrev pub GatesDemandThree : Type 0
-GatesDemandThree = (g : GateRun) → OfBytes g → g .at 0 ≡ resetMachine → GateDemand g
+GatesDemandThree = (g : GateRun) → SendsBytes g → g .at 0 ≡ resetMachine → GateDemand g

@@ -16,8 +16,8 @@ pub data Class : Type 0 where
   low : Class
   high : Class
 
--- a header, the output that it asks for and the class; a gate word, its kind and the nets that it reads; a holder, what inputs 0..3 ask, and
--- the holder after the routing
+-- Three kinds of rows: a header, the output that it asks for and the class; a gate word, its kind and the nets that it reads; the old holder, what
+-- inputs 0..3 ask, and the holder after the routing.
 pub data Row : Type 0 where
   header : ℕ → ℕ → Class → Row
   gate : ℕ → ℕ → List ℕ → Row
@@ -62,18 +62,28 @@ same [] (y ∷ ys) = false
 same (x ∷ xs) [] = false
 same (x ∷ xs) (y ∷ ys) = eqb x y && same xs ys
 
--- a header asks for that output in that class and for no other; a word is made of its kind and nets, gives them back and is not wrong; the
--- holder comes out for each output
-abbrev pub passes : Row → Bool
-passes (header byte output class) =
+-- a header asks for that output in that class, and for no other output
+abbrev pub headerPasses : ℕ → ℕ → Class → Bool
+headerPasses byte output class =
     every (four (λ o. Bool·beq (asks o byte) (eqb o output && not (isNobody class)) && Bool·beq (asksHigh o byte) (eqb o output && isHigh class)))
-passes (gate w kind nets) = eqb (word kind nets) w && eqb (kindOf w) kind && same (used (λ n. n) w) nets && not (wrong w)
-passes (turn holder classes after) =
+
+-- a gate word is made of its kind and nets, gives them back, and is not wrong
+abbrev pub gatePasses : ℕ → ℕ → List ℕ → Bool
+gatePasses w kind nets = eqb (word kind nets) w && eqb (kindOf w) kind && same (used (λ n. n) w) nets && not (wrong w)
+
+-- the holder after the routing comes out as the row says, for each output
+abbrev pub turnPasses : ℕ → List Class → ℕ → Bool
+turnPasses holder classes after =
     every (four (λ o. eqb (holderAfter true (four (λ i. asking o (getD classes i nobody))) o (input holder) .0) after))
+
+abbrev pub rowPasses : Row → Bool
+rowPasses (header byte output class) = headerPasses byte output class
+rowPasses (gate w kind nets) = gatePasses w kind nets
+rowPasses (turn holder classes after) = turnPasses holder classes after
 
 abbrev pub allPass : List Row → Bool
 allPass [] = true
-allPass (row ∷ rows) = passes row && allPass rows
+allPass (row ∷ rows) = rowPasses row && allPass rows
 
 abbrev pub WorkedTable : Type 0
 WorkedTable = T (allPass table)

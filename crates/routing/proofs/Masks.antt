@@ -9,7 +9,7 @@ use lib.Count.{ones, onesIn}
 use lib.Dec.{eqb, eqb→eq, lit<}
 use borrow.Author.Tests.{eq-eqb, ne-eqb, not-true, not-false}
 use Rattle.routing.specs.Four.{some, bit, bitAt, count, mask}
-use Rattle.routing.proofs.Fours.{row, at-four}
+use Rattle.routing.proofs.Fours.{row, at-four, not-both}
 use Rattle.routing.proofs.Tests.{upto, flags, everywhere, beq→eq}
 
 abbrev packed : Bool → Bool → Bool → Bool → ℕ
@@ -48,6 +48,17 @@ module _ (f : ℕ → Bool) where
 
   pub mask-some : (mask f ≡ 0 → ⊥) → some f ≡ true
   mask-some h = not-false (some f) (sym (none (f 0) (f 1) (f 2) (f 3)) ∙ ne-eqb (mask f) 0 h)
+
+  -- where somebody says yes, somebody is counted
+  pub count-some : some f ≡ true → 1 ≤ count f
+  count-some e = go (f 0) (f 1) (f 2) (f 3) e
+    where
+      go : (a b c d : Bool) → (a || b || c || d) ≡ true → 1 ≤ bit a + bit b + bit c + bit d
+      go true b c d e = omega arith
+      go false true c d e = omega arith
+      go false false true d e = omega arith
+      go false false false true e = omega arith
+      go false false false false e = absurd (not-both e refl)
 
   pub ones-mask : ones (mask f) ≡ count f
   ones-mask = ones-of (f 0) (f 1) (f 2) (f 3)

@@ -32,11 +32,11 @@ worked-frame = record {
       none-between = λ t l h. ap (λ (b : Bool). b || eqb t 11) (ne-eqb t 0 (λ e. omega arith)) ∙ ne-eqb t 11 (λ e. omega arith);
       next = refl;
     };
-    quiet = record { before = refl; until = worked-quiet };
+    none-before = record { before = refl; until = worked-quiet };
     header = refl;
     late = lit≤ tt;
     long = lit≤ tt;
-    quiet-end = refl;
+    none-at-end = refl;
   };
   won-1 = record { routing = refl; asked = record { by = 1; is-input = lit< tt; asks = refl }; new-holder = refl };
   won-3 = record { routing = refl; asked = record { by = 2; is-input = lit< tt; asks = refl }; new-holder = refl };

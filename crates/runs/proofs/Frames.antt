@@ -1,20 +1,22 @@
 -- Well-formed frames, of any run. Assumes nothing.
-use mathlib.Core.Bool.{true}
-use mathlib.Core.Path.{_≡_, sym, ap, subst, _∙_}
+use mathlib.Core.Bool.{Bool, true, false}
+use mathlib.Core.Path.{_≡_, refl, sym, ap, subst, _∙_}
 use mathlib.Core.Logic.{_⊎_, inl, inr}
 use mathlib.Core.List.{List}
 use Prim.Native.Nat.{ℕ, suc, _+_, _-_, _<_, _≤_}
 use native.Mathlib.Omega.{arith}
 use native.Mathlib.Nat.{eq-or-lt-of-le}
+use lib.Dec.{ltb}
 use lib.ListN.{getD}
-use Rattle.routing.specs.Header.{someActive, asks}
+use borrow.Author.Tests.{ltb-true, ltb-false}
+use Rattle.routing.specs.Header.{someActive}
 use Rattle.routing.proofs.Fours.{not-both, yes-unless}
 use Rattle.runs.specs.Run.{Run, NoFrameStartAt, ack, holder, Shut, Open, headersAt}
 use Rattle.runs.specs.Routing.{RoutingAt, NoRoutingAt, AskedFor}
 use Rattle.runs.specs.Frame.{ActiveFrame, FromWon, ActiveShows, ActiveFrames, InactiveFrame, InactiveShows, InactiveFrames}
 use Rattle.runs.proofs.Cycles.{waits-started, runs-routed, holder-kept, holder-unasked, shut-started, shut-unasked, open-asked, second-two}
 use Rattle.runs.proofs.Askers.{asked-for, is-asked, not-asked, by-nobody}
-use Rattle.runs.proofs.Stretches.{head-shut, head-open, ack-none, ack-from, ack-to, running-no-routing, quiet-no-routing, Same, stretch}
+use Rattle.runs.proofs.Stretches.{quiet-headers, head-shut, head-open, ack-none, ack-from, ack-to, running-no-routing, quiet-no-routing, Same, stretch}
 
 -- what holds in all cycles up to e, and in the next
 up-to : (P : ℕ → Type 0) (e : ℕ) → P (suc e) → (t : ℕ) → (t ≤ e → P t) → t ≤ e + 1 → P t
@@ -31,7 +33,7 @@ next-is r t o = let e : suc t ≡ t + 1 = omega arith in ap (λ (k : ℕ). holde
 
 module _ (r : Run) (ts te : ℕ) (a : InactiveFrame r ts te) where
   no-routing : (t : ℕ) → ts < t → t < te + 2 → NoRoutingAt r t
-  no-routing = quiet-no-routing r ts te (a .quiet)
+  no-routing = quiet-no-routing r ts te (a .none-active)
 
   same : (t : ℕ) → suc ts ≤ t → t ≤ te → Same r (suc ts) t
   same = stretch r (suc ts) te (a .frame .none-between) (λ k l h _. no-routing k l (omega arith))
@@ -49,6 +51,7 @@ module _ (r : Run) (ts te : ℕ) (a : InactiveFrame r ts te) where
 
   inactive-shows : InactiveShows r ts te
   inactive-shows = record {
+    no-routing = λ t p q. no-routing t (omega arith) (omega arith);
     heads = λ t o l p q. head-shut r t (t - 2) o l (omega arith) (shut (t - 2) o l (omega arith) (omega arith));
     acks = λ t i p q. ack-none r t i (λ o l. shut t o l (omega arith) (omega arith));
     holders = λ t o l p q. held t o l (omega arith) q ∙ next-is r ts o;
@@ -69,7 +72,7 @@ module _ (r : Run) (ts th te : ℕ) (a : ActiveFrame r ts th te) where
 
   waiting-same : (t : ℕ) → suc ts ≤ t → t ≤ tr → Same r (suc ts) t
   waiting-same =
-      stretch r (suc ts) tr (λ k l h. let n = a .long in a .frame .none-between k l (omega arith)) (λ k l h _. quiet-no-routing r ts th (a .quiet) k l h)
+      stretch r (suc ts) tr (λ k l h. let n = a .long in a .frame .none-between k l (omega arith)) (λ k l h _. quiet-no-routing r ts th (a .none-before) k l h)
 
   waiting-shut : (t o : ℕ) → o < 4 → suc ts ≤ t → t ≤ tr → Shut r t o
   waiting-shut t o l p q = waiting-same t p q .shut o l ∙ shut-started r ts o l (a .frame .starts)
@@ -93,6 +96,27 @@ module _ (r : Run) (ts th te : ℕ) (a : ActiveFrame r ts th te) where
   running-same =
       stretch r (suc tr) te (λ k l h. no-start k (omega arith) h) (λ k l h s. running-no-routing r k (s .phase ∙ runs-routed r tr no-start-then happens))
 
+  running-no : (t : ℕ) → suc tr ≤ t → t ≤ te → NoRoutingAt r t
+  running-no t p q = running-no-routing r t (running-same t p q .phase ∙ runs-routed r tr no-start-then happens)
+
+  -- the byte of te-1 stands in the second latches at te+1
+  last-no : NoRoutingAt r (suc te)
+  last-no =
+      let n = a .long in
+      let e : te ≡ suc (te - 1) = omega arith in
+      quiet-headers r (suc te) (ap someActive (ap (λ (k : ℕ). headersAt r (suc k)) e ∙ second-two r (te - 1)) ∙ a .none-at-end)
+
+  no-other : (t : ℕ) → ts + 1 ≤ t → t ≤ te + 1 → RoutingAt r t → t ≡ th + 2
+  no-other t p q n = go (ltb t tr) (ltb tr t) refl refl
+    where
+      after : suc tr ≤ t → NoRoutingAt r t
+      after l = up-to (λ (k : ℕ). NoRoutingAt r k) te last-no t (running-no t l) q
+
+      go : (x y : Bool) → ltb t tr ≡ x → ltb tr t ≡ y → t ≡ tr
+      go true y e f = absurd (not-both n (quiet-no-routing r ts th (a .none-before) t (omega arith) (ltb-true t tr e)))
+      go false true e f = absurd (not-both n (after (ltb-true tr t f)))
+      go false false e f = let x = ltb-false t tr e in let y = ltb-false tr t f in omega arith
+
   unasked-shut : (o : ℕ) → o < 4 → (AskedFor r tr o → ⊥) → Shut r (suc tr) o
   unasked-shut o l n = shut-unasked r tr o l no-start-then happens (not-asked r tr o n) ∙ waiting-shut tr o l ordered (omega arith)
 
@@ -105,9 +129,8 @@ module _ (r : Run) (ts th te : ℕ) (a : ActiveFrame r ts th te) where
   running-held : (t o : ℕ) → o < 4 → suc tr ≤ t → t ≤ te + 1 → holder r t o ≡ holder r (suc tr) o
   running-held t o l p =
       let n : suc tr ≤ te = let n = a .long in omega arith in
-      let s = running-same te n (omega arith) in
       up-to (λ (k : ℕ). holder r k o ≡ holder r (suc tr) o) te
-      (holder-kept r te o l (running-no-routing r te (s .phase ∙ runs-routed r tr no-start-then happens)) ∙ s .held o l) t
+      (holder-kept r te o l (running-no te n (omega arith)) ∙ running-same te n (omega arith) .held o l) t
       (λ q. running-same t p q .held o l)
 
   acks-from : (t i : ℕ) → th + 3 ≤ t → t ≤ te → ack r t i ≡ true → FromWon r th t i
@@ -141,8 +164,8 @@ module _ (r : Run) (ts th te : ℕ) (a : ActiveFrame r ts th te) where
   active-shows = record {
     routing = record {
       happens = happens;
-      headers = λ i o.
-          let e = ap (λ (row : List ℕ). asks o (getD row i 0)) headers-are in (λ x. sym e ∙ x, λ x. e ∙ x);
+      headers = λ i. ap (λ (row : List ℕ). getD row i 0) headers-are;
+      no-other = no-other;
     };
     heads = record {
       zero-first = λ t o l p q. head-shut r t (t - 2) o l (omega arith) (waiting-shut (t - 2) o l (omega arith) (omega arith));

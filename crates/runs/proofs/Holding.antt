@@ -1,7 +1,7 @@
 -- The winner is fixed while its output is open, and open outputs have different holders. Assumes nothing.
 use mathlib.Core.Bool.{Bool, true, false, not, _&&_}
 use mathlib.Core.Path.{_≡_, refl, sym, _∙_}
-use Prim.Native.Nat.{ℕ, _<_, _≤_}
+use Prim.Native.Nat.{ℕ, suc, _<_, _≤_}
 use native.Mathlib.Omega.{arith}
 use native.Mathlib.Decide.{le-ind}
 use lib.Dec.{ltb}
@@ -11,16 +11,19 @@ use Rattle.states.specs.State.{shutAt, holderAt}
 use Rattle.states.proofs.States.{not-twice}
 use Rattle.fabric.proofs.Steps.{no-pair}
 use Rattle.runs.specs.Run.{Run, FromAccepted, holder, Open}
-use Rattle.runs.specs.Holding.{Holding, Apart}
+use Rattle.runs.specs.Holding.{OpenFrom, Holding, Apart}
 use Rattle.runs.proofs.Cycles.{holder-kept}
 use Rattle.runs.proofs.Accepting.{run-accepted}
 use Rattle.runs.proofs.Opening.{open-no-routing}
 
 module _ (r : Run) (ok : FromAccepted r) where
-  pub holding : Holding r
-  holding s t o l order stays =
+  same-holder : (s t o : ℕ) → o < 4 → s ≤ t → OpenFrom r s t o → holder r t o ≡ holder r s o
+  same-holder s t o l order stays =
       le-ind {n = s} (λ (k : ℕ). k ≤ t → holder r k o ≡ holder r s o) (λ _. refl)
       (λ k m p u. holder-kept r k o l (open-no-routing r ok k o l (stays k m (omega arith))) ∙ p (omega arith)) t order (omega arith)
+
+  pub holding : Holding r
+  holding = record { same-holder = same-holder; winner-holds = λ s t w o l later won stays. same-holder (suc s) t o l later stays ∙ won .new-holder }
 
   -- the lower output first
   not-shared : (t a b : ℕ) → a < b → b < 4 → Open r t a → Open r t b → holder r t a ≡ holder r t b → ⊥

@@ -1,8 +1,8 @@
 -- The report says who won. Assumes nothing.
-use mathlib.Core.Bool.{Bool, true, false, _||_, true≢false}
-use mathlib.Core.Path.{_≡_, sym, ap, _∙_}
+use mathlib.Core.Bool.{Bool, true, false}
+use mathlib.Core.Path.{_≡_, refl, sym, ap, _∙_}
 use mathlib.Core.List.{List}
-use Prim.Native.Nat.{ℕ, suc, _+_, _<_, _≤_}
+use Prim.Native.Nat.{ℕ, suc, _<_}
 use native.Mathlib.Omega.{arith}
 use Rattle.routing.specs.declared.port.Input.{Input}
 use Rattle.routing.specs.declared.route.Outcome.{Outcome}
@@ -10,10 +10,11 @@ use Rattle.routing.specs.declared.route.Outcome.the-variants.{Quiet, Won}
 use Rattle.routing.specs.declared.route.Outcomes.{Outcomes}
 use Rattle.routing.specs.declared.route.Report.{Report}
 use Rattle.routing.specs.declared.route.Report.the-variants.{NoRouting, Routing}
-use Rattle.routing.specs.Four.{some, bit, count}
 use Rattle.routing.specs.Header.{asker}
 use Rattle.routing.specs.Port.{input}
-use Rattle.routing.specs.Route.{asked, winner, turnedAway, decided, outcomes, reported}
+use Rattle.routing.specs.Route.{asked, winner, turnedAway, decided, outcomes}
+use Rattle.routing.proofs.Decisions.{reports, reports-none}
+use Rattle.routing.proofs.Masks.{count-some}
 use Rattle.routing.proofs.Fours.{at-four, not-both, yes-unless, no-unless}
 use Rattle.runs.specs.Run.{Run, holder, reportAt, headersAt}
 use Rattle.runs.specs.Routing.{RoutingAt, NoRoutingAt, askers, Wins}
@@ -43,17 +44,6 @@ abbrev countIn : Outcome → ℕ
 countIn Quiet = 0
 countIn (Won w n) = n
 
--- somebody who asks is counted
-count-some : (f : ℕ → Bool) → some f ≡ true → 1 ≤ count f
-count-some f e = go (f 0) (f 1) (f 2) (f 3) e
-  where
-    go : (a b c d : Bool) → (a || b || c || d) ≡ true → 1 ≤ bit a + bit b + bit c + bit d
-    go true b c d e = omega arith
-    go false true c d e = omega arith
-    go false false true d e = omega arith
-    go false false false true e = omega arith
-    go false false false false e = absurd (true≢false (sym e))
-
 module _ (r : Run) (t : ℕ) where
   abbrev headers : List ℕ
   headers = headersAt r t
@@ -62,12 +52,10 @@ module _ (r : Run) (t : ℕ) where
   made = outcomes (r .at t .state .holders) headers
 
   routed : RoutingAt r t → reportAt r t ≡ Routing made
-  unfolding reported
-  routed n = rw n
+  routed n = sym (reports (r .at t .state .waiting) (r .at t .state .holders) headers refl n refl)
 
   none : NoRoutingAt r t → reportAt r t ≡ NoRouting
-  unfolding reported
-  none n = rw n
+  none n = sym (reports-none (r .at t .state .waiting) (r .at t .state .holders) headers refl n)
 
   was-routed : {x : Outcomes} → reportAt r t ≡ Routing x → RoutingAt r t
   was-routed e = yes-unless (λ n. not-both (ap isRouting e) (ap isRouting (none n)))
@@ -82,8 +70,8 @@ module _ (r : Run) (t : ℕ) where
     said : {x : Outcome} → Reports r t o x → decided headers o (holder r t o) ≡ x
     said p = sym outcome-is ∙ ap (λ (y : Report). outcomeOf (outcomesIn y) o) (sym (routed (was-routed (p .routing))) ∙ p .routing) ∙ p .says
 
-    reports : {x : Outcome} → RoutingAt r t → decided headers o (holder r t o) ≡ x → Reports r t o x
-    reports n e = record { outcomes = made; routing = routed n; says = outcome-is ∙ e }
+    reporting-of : {x : Outcome} → RoutingAt r t → decided headers o (holder r t o) ≡ x → Reports r t o x
+    reporting-of n e = record { outcomes = made; routing = routed n; says = outcome-is ∙ e }
 
     decided-won : asked headers o ≡ true → decided headers o (holder r t o) ≡ Won (input (winner headers o (holder r t o))) (turnedAway headers o)
     unfolding decided
@@ -114,7 +102,7 @@ module _ (r : Run) (t : ℕ) where
           let w = p .0 in
           let a = is-asked r t o (w .asked) in
           let m : turnedAway headers o ≡ n = let e = p .1 in omega arith in
-          reports (w .routing)
+          reporting-of (w .routing)
           (decided-won a
           ∙ ap (λ (x : ℕ). Won (input x) (turnedAway headers o)) (sym (holder-won r t o l (w .routing) a) ∙ w .new-holder)
           ∙ ap (λ (x : ℕ). Won (input i) x) m)
@@ -124,7 +112,7 @@ reporting r = record {
   won = λ t o i n l. (won-then r t o l i n, then-won r t o l i n);
   quiet = λ t o l. (
     λ p. (was-routed r t (p .routing), by-nobody r t o (unasked-if r t o l p)),
-    λ p. reports r t o l (p .0) (decided-quiet r t o l (not-asked r t o (p .1))),
+    λ p. reporting-of r t o l (p .0) (decided-quiet r t o l (not-asked r t o (p .1))),
   );
   none = λ t. (not-routed r t, none r t);
 }

@@ -15,7 +15,7 @@ use Rattle.runs.proofs.Cycles.{second-is, second-two, head-one, head-tw
 before-is : {A : Type 0} (n : ℕ) (d : A) (f : ℕ → A) (t k : ℕ) → t ≡ k + n → before n d f t ≡ f k
 before-is n d f t k e = ap (λ (b : Bool). cond b d (f (t - n))) (le-ltb t n (omega arith)) ∙ ap f (omega arith)
 
-zero-row : (o : ℕ) → getD zeroRow o 0 ≡ 0
+pub zero-row : (o : ℕ) → getD zeroRow o 0 ≡ 0
 zero-row zero = refl
 zero-row (suc zero) = refl
 zero-row (suc (suc zero)) = refl

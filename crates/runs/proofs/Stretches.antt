@@ -18,7 +18,7 @@ use Rattle.states.specs.State.{shutAt, firstRow}
 use Rattle.fabric.specs.Cycle.{Machine, passes, switchByte}
 use Rattle.runs.specs.Run.{Run, sent, NoFrameStartAt, AcknowledgedBy, head, ack, holder, Shut, Open, headersAt}
 use Rattle.runs.specs.Routing.{NoRoutingAt}
-use Rattle.runs.specs.Frame.{QuietReset, Quiet, QuietBefore}
+use Rattle.runs.specs.Frame.{NoneActiveBefore, ZerosBeforeReset, NoneActiveFrom}
 use Rattle.runs.proofs.Cycles.{phase-kept, shut-kept, holder-kept, second-is, second-two, head-two}
 
 -- ---- the heads, from the cycle k two before t
@@ -70,17 +70,17 @@ module _ (r : Run) (t i : ℕ) where
 
 -- ---- no routing
 
-quiet-headers : (r : Run) (t : ℕ) → someActive (headersAt r t) ≡ false → NoRoutingAt r t
+pub quiet-headers : (r : Run) (t : ℕ) → someActive (headersAt r t) ≡ false → NoRoutingAt r t
 quiet-headers r t = and-no-right (r .at t .state .waiting) (someActive (headersAt r t))
 
 pub running-no-routing : (r : Run) (t : ℕ) → r .at t .state .waiting ≡ false → NoRoutingAt r t
 running-no-routing r t e = rw e
 
-pub quiet-reset : QuietReset
-quiet-reset r start = ap (λ (m : Machine). someActive (firstRow (m .rows))) start
+pub zeros-before-reset : ZerosBeforeReset
+zeros-before-reset r start = ap (λ (m : Machine). someActive (firstRow (m .rows))) start
 
 -- where no active bit is sent in ts-1 .. e-1, no routing happens in ts+1 .. e+1
-pub quiet-no-routing : (r : Run) (ts e : ℕ) → Quiet r ts e → (t : ℕ) → ts < t → t < e + 2 → NoRoutingAt r t
+pub quiet-no-routing : (r : Run) (ts e : ℕ) → NoneActiveFrom r ts e → (t : ℕ) → ts < t → t < e + 2 → NoRoutingAt r t
 quiet-no-routing r ts e q zero lo hi = absurd (omega arith)
 quiet-no-routing r zero e q (suc zero) lo hi = quiet-headers r 1 (ap someActive (second-is r 0) ∙ q .before)
 quiet-no-routing r (suc ts) e q (suc zero) lo hi = absurd (omega arith)
@@ -90,7 +90,7 @@ quiet-no-routing r ts e q (suc (suc t)) lo hi = quiet-headers r (suc (suc t)) (a
     lo' = omega arith
 
     go : (ts ≡ suc t) ⊎ (ts < suc t) → someActive (r .ins t .bytes) ≡ false
-    go (inl same) = subst (QuietBefore r) same (q .before)
+    go (inl same) = subst (NoneActiveBefore r) same (q .before)
     go (inr less) = q .until t (omega arith) (omega arith)
 
 -- ---- a stretch from cycle b on: the state stays as it was at b

@@ -1,4 +1,4 @@
--- Accepted states: a call to which a state is handed accepts it, or refuses it by 14, 7 or 8.
+-- Accepted states stay accepted.
 use Prim.Native.Nat.{ℕ}
 use Rattle.fabric.specs.declared.cycle.Inputs.{Inputs}
 use Rattle.states.specs.State.{resetState}

@@ -6,6 +6,8 @@ use Rattle.runs.specs.Holding.{Holding, Apart}
 use Rattle.runs.specs.Showing.{Showing}
 use Rattle.runs.specs.Routings.{FourRoutings}
 
+-- Openings (with what shuts an output), the winner (with what the report says of it), the winner fixed while the output is open, no input with
+-- two open outputs, each head byte's source, four routings in a row.
 pub record Demand (r : Run) : Type 0 where
   pub opening : Opening r
   pub shutting : Shutting r

@@ -1,4 +1,5 @@
--- The words are met: document 01's replay holds a well-formed frame, and three routings in a row are not enough.
+-- The words are met: document 01's replay, with a frame start added in cycle 11, is a well-formed frame; and three routings in a row are not
+-- enough.
 use mathlib.Core.Bool.{true, false, _||_}
 use mathlib.Core.Path.{_≡_}
 use mathlib.Core.List.{List, [], _∷_}
@@ -14,7 +15,7 @@ use Rattle.runs.specs.Routing.{InHighestClass, Wins}
 use Rattle.runs.specs.Routings.{InARow}
 use Rattle.runs.specs.Frame.{ActiveFrame}
 
--- The replay, with the next frame start in cycle 11: cycles 2 to 5 bring bytes, all others zeros; output 1 acknowledges always.
+-- Cycles 2 to 5 bring bytes, all others zeros; frame starts in cycles 0 and 11; output 1 acknowledges always.
 abbrev pub workedBytes : List (List ℕ)
 workedBytes =
     zeroRow
@@ -37,7 +38,7 @@ pub record WorkedFrame : Type 0 where
   pub won-1 : Wins worked (2 + 2) 1 1
   pub won-3 : Wins worked (2 + 2) 2 3
 
--- so the theorem about frames gives each byte of its heads; here the point of 2.5, at head 1 in cycle 8
+-- so the theorem about frames gives each byte of its heads: in cycle 8 head 1 shows 0x2E, the point in the text 2.5 that input 1 sends
 abbrev pub ThePoint : Type 0
 ThePoint = head worked 8 1 ≡ 0x2E
 

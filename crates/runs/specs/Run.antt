@@ -26,13 +26,15 @@ run-steps m ins t = refl
 abbrev pub runFrom : Machine → (ℕ → Inputs) → Run
 runFrom m ins = record { at = runOf m ins; ins = ins; steps = run-steps m ins }
 
--- it starts from reset; it starts from a state that is accepted, of which reset is one
+-- a run starts from reset
 abbrev pub FromReset : Run → Type 0
 FromReset r = r .at 0 ≡ resetMachine
 
+-- a call to which a state is handed accepts it: it is refused by none of 14, 7 and 8
 abbrev pub Accepted : State → Type 0
 Accepted s = stateRefusal s ≡ 0
 
+-- a run starts from a state that is accepted, of which reset is one
 abbrev pub FromAccepted : Run → Type 0
 FromAccepted r = Accepted (r .at 0 .state)
 
@@ -85,6 +87,6 @@ Open r t o = shutAt (r .at t .state) o ≡ false
 abbrev pub headersAt : Run → ℕ → List ℕ
 headersAt r t = secondRow (r .at t .rows)
 
--- the first latches at the run's start, which hold what was sent in the cycle before it: no active bit; from reset they are zeros
-abbrev pub NoneActiveBefore : Run → Type 0
-NoneActiveBefore r = someActive (firstRow (r .at 0 .rows)) ≡ false
+-- no active bit was sent in the cycle before the run's first: what was sent there stands in the first latches; from reset they are zeros
+abbrev pub NoneActiveBeforeRun : Run → Type 0
+NoneActiveBeforeRun r = someActive (firstRow (r .at 0 .rows)) ≡ false

@@ -6,7 +6,7 @@ use lib.Dec.{ltb}
 use Rattle.states.specs.State.{shutAt}
 use Rattle.runs.specs.Run.{Run, sent, head, holder}
 
--- what f says n cycles before cycle t; before cycle 0, d
+-- f n cycles before t; d where that is before cycle 0
 abbrev pub before : {A : Type 0} → ℕ → A → (ℕ → A) → ℕ → A
 before n d f t = cond (ltb t n) d (f (t - n))
 

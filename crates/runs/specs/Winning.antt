@@ -12,8 +12,8 @@ use Rattle.routing.specs.Port.{input}
 use Rattle.runs.specs.Run.{Run, holder, reportAt}
 use Rattle.runs.specs.Routing.{RoutingAt, NoRoutingAt, AskedFor, askers, InHighestClass, Wins}
 
--- Input w is next in turn for output o: counting on from the old holder h by h+1, h+2, h+3, h+4 (modulo 4), w comes after some steps,
--- and nobody who comes earlier is in the highest class asking.
+-- Input w is next in turn for output o: in the order h+1, h+2, h+3, h (modulo 4) from the old holder h, where four steps lead back to h, w
+-- comes after some steps, and nobody who comes earlier is in the highest class asking.
 pub record NextInTurn (r : Run) (t w o : ℕ) : Type 0 where
   pub steps : ℕ
   pub from-one : 1 ≤ steps
