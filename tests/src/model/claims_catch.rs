@@ -34,8 +34,8 @@ const BROKEN: &[(Wrong, &[&str])] = &[
     (Wrong::ShutPasses, &["frame heads", "showing"]),
     (Wrong::LowNotCounted, &["winner"]),
     (Wrong::NoReportAtStart, &["winner"]),
-    // Only the probe's calls by gates have it, and they are not run here;
-    // there it is the same as a turn at the holder.
+    // Only the probe's calls by gates have it, and they are not run here, so
+    // it breaks none; there it is the same as a turn at the holder.
     (Wrong::GatesTurn, &[]),
 ];
 
@@ -62,6 +62,7 @@ fn faults_break_claims() {
         let broken = broken(*wrong);
         let caught = claims.iter().all(|name| broken.contains(name));
         assert!(caught, "{wrong:?} breaks only {broken:?}");
+        assert_eq!(claims.is_empty(), broken.is_empty(), "{wrong:?}");
     }
 }
 
