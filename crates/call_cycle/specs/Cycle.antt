@@ -18,7 +18,7 @@ use Rattle.capture.specs.Capture.{inputsIn}
 use Rattle.engine.specs.declared.cycle.GateCycled.{GateCycled}
 use Rattle.engine.specs.Cycle.{unreported}
 use Rattle.image.specs.Image.{machineFrom}
-use Rattle.image.specs.Parts.{numberText, stateText, malformed}
+use Rattle.parts.specs.Parts.{numberText, stateText, malformed}
 
 abbrev pub outcomeText : Outcome → List ℕ
 outcomeText Quiet = ascii "-"

@@ -61,8 +61,8 @@ fn put_cycled(out: &mut [u8], t: GateCycled) -> usize
     let switched = t.switched;
     let heads = t.heads;
     let answer = records::answer_bytes(acks, shown);
-    let a = image::put_number(&mut *out, 0, t.number as u64);
-    let b = image::put_state(&mut *out, a, t.state, first, second, switched, heads);
+    let a = parts::put_number(&mut *out, 0, t.number as u64);
+    let b = parts::put_state(&mut *out, a, t.state, first, second, switched, heads);
     let c = text::put_byte(&mut *out, b, b' ');
     text::put_hex(out, c, &answer)
 }

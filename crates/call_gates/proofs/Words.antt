@@ -12,7 +12,7 @@ use borrow.Author.Tests.{leb-true}
 use Rattle.routing.proofs.Equal.{two}
 use Rattle.routing.proofs.Fours.{and-left, and-right}
 use Rattle.gates.specs.Evaluation.{evaluated}
-use Rattle.image.specs.Parts.{wordAt}
+use Rattle.parts.specs.Parts.{wordAt}
 use Rattle.call_gates.specs.Evaluate.{fitting, gateWords}
 
 pub next-word : (payload words : List ℕ) (i : ℕ) {w : ℕ} → take i words ≡ gateWords payload i → w ≡ wordAt payload (16 + 4 * i) → i < length words

@@ -8,7 +8,7 @@ use Rattle.text.specs.Ascii.{ascii}
 use Rattle.text.specs.Digits.{hexes}
 use Rattle.gates.specs.declared.evaluator.Evaluated.{Evaluated}
 use Rattle.gates.specs.Evaluation.{evaluated}
-use Rattle.image.specs.Parts.{wordAt, longAt, numberText, malformed}
+use Rattle.parts.specs.Parts.{wordAt, longAt, numberText, malformed}
 
 -- whole words, and at most 128 of them
 abbrev pub fitting : List ℕ → Bool

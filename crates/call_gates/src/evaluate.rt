@@ -21,7 +21,7 @@ fn words_from(payload: &[u8], n: usize) -> [u32; 128]
     let mut words = [0u32; 128];
     let mut i: usize = 0;
     while i < n {
-        words[i] = image::word_at(payload, (16 + 4 * i) as u16) as u32;
+        words[i] = parts::word_at(payload, (16 + 4 * i) as u16) as u32;
         i += 1;
     }
     words
@@ -46,8 +46,8 @@ fn put_evaluated(out: &mut [u8], e: Evaluated) -> usize
     ensures { λ r. ⌜ Wrote (page (now (out .entry)) 0) (evaluatedText e) (page (now (out .exit)) r) ⌝ }
 {
     let bytes = value_bytes(e.value);
-    let a = image::put_number(&mut *out, 0, e.number as u64);
-    let b = image::put_number(&mut *out, a, e.index as u64);
+    let a = parts::put_number(&mut *out, 0, e.number as u64);
+    let b = parts::put_number(&mut *out, a, e.index as u64);
     let c = text::put_hex(&mut *out, b, &bytes);
     text::put_byte(out, c, b'\n')
 }
@@ -60,7 +60,7 @@ pub fn put_evaluate(out: &mut [u8], payload: &[u8]) -> usize
     }
     let n = (payload.len() - 16) / 4;
     let words = words_from(payload, n);
-    let inputs = image::long_at(payload, 0) as usize;
-    let input = image::long_at(payload, 8);
+    let inputs = parts::long_at(payload, 0) as usize;
+    let input = parts::long_at(payload, 8);
     put_evaluated(out, gates::evaluate(&words[..n], inputs, input))
 }

@@ -10,7 +10,7 @@ use Rattle.fabric.specs.Cycle.{machine}
 use Rattle.capture.specs.declared.run.Replayed.{Replayed}
 use Rattle.capture.specs.Replay.{replayOf, replayWrites}
 use Rattle.image.specs.Image.{machineFrom}
-use Rattle.image.specs.Parts.{wordAt, numberText, stateText, bytesText, malformed}
+use Rattle.parts.specs.Parts.{wordAt, numberText, stateText, bytesText, malformed}
 
 -- the buffer's length; more than 65,536 is answered by `too long` and comes not here
 abbrev pub roomIn : List ℕ → ℕ

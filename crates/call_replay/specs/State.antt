@@ -9,7 +9,7 @@ use Rattle.fabric.specs.Cycle.{machine}
 use Rattle.saved.specs.declared.taking_up.TakenUp.{TakenUp}
 use Rattle.saved.specs.Saved.{saveRefusal, saveWrites, takeUpOf}
 use Rattle.image.specs.Image.{stateFrom, machineFrom}
-use Rattle.image.specs.Parts.{numberText, stateText, bytesText, malformed}
+use Rattle.parts.specs.Parts.{numberText, stateText, bytesText, malformed}
 use Rattle.call_replay.specs.Replay.{roomIn, marked}
 
 abbrev pub saveText : List ℕ → List ℕ → List ℕ

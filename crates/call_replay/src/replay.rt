@@ -13,11 +13,11 @@ fn put_replayed(out: &mut [u8], t: Replayed, buffer: &[u8]) -> usize
     let second = t.second;
     let switched = t.switched;
     let heads = t.heads;
-    let a = image::put_number(&mut *out, 0, t.number as u64);
-    let b = image::put_number(&mut *out, a, t.index as u64);
-    let c = image::put_state(&mut *out, b, t.state, first, second, switched, heads);
+    let a = parts::put_number(&mut *out, 0, t.number as u64);
+    let b = parts::put_number(&mut *out, a, t.index as u64);
+    let c = parts::put_state(&mut *out, b, t.state, first, second, switched, heads);
     let d = text::put_byte(&mut *out, c, b' ');
-    let e = image::put_bytes(&mut *out, d, buffer);
+    let e = parts::put_bytes(&mut *out, d, buffer);
     text::put_byte(out, e, b'\n')
 }
 
@@ -51,7 +51,7 @@ pub(crate) fn marks() -> [u8; 65536]
 pub(crate) fn room_in(payload: &[u8]) -> usize
     ensures { λ r. ⌜ (r ≡ roomIn (now (payload .entry))) × (r ≤ 65536) ⌝ }
 {
-    let asked = image::word_at(payload, 25) as usize;
+    let asked = parts::word_at(payload, 25) as usize;
     text::shorter(asked, 65536)
 }
 

@@ -12,8 +12,8 @@ fn put_save_into(out: &mut [u8], payload: &[u8], buffer: &mut [u8]) -> usize
         image::rows_from(payload),
         &mut *buffer,
     );
-    let a = image::put_number(&mut *out, 0, number as u64);
-    let b = image::put_bytes(&mut *out, a, buffer);
+    let a = parts::put_number(&mut *out, 0, number as u64);
+    let b = parts::put_bytes(&mut *out, a, buffer);
     text::put_byte(out, b, b'\n')
 }
 
@@ -35,8 +35,8 @@ fn put_taken_up(out: &mut [u8], t: TakenUp) -> usize
     let second = t.second;
     let switched = t.switched;
     let heads = t.heads;
-    let a = image::put_number(&mut *out, 0, t.number as u64);
-    let b = image::put_state(&mut *out, a, t.state, first, second, switched, heads);
+    let a = parts::put_number(&mut *out, 0, t.number as u64);
+    let b = parts::put_state(&mut *out, a, t.state, first, second, switched, heads);
     text::put_byte(out, b, b'\n')
 }
 

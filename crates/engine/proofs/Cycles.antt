@@ -7,10 +7,11 @@ use lib.Dec.{lit<}
 use Rattle.states.specs.declared.state.State.{State}
 use Rattle.fabric.specs.declared.cycle.Inputs.{Inputs}
 use Rattle.states.specs.State.{holderAt, Held, firstRow, secondRow, switchRow}
-use Rattle.fabric.specs.Cycle.{Machine, shown, stateAfter, rowsAfter}
+use Rattle.fabric.specs.Cycle.{Machine, shown, stateAfter, rowsAfter, stepOf}
 use Rattle.fabric.proofs.Steps.{holder-below}
+use Rattle.records.specs.Record.{Bytes}
 use Rattle.engine.specs.declared.cycle.GateCycled.{GateCycled}
-use Rattle.engine.specs.Cycle.{GatesAreRules}
+use Rattle.engine.specs.Cycle.{gateStepOf, unreported}
 use Rattle.engine.proofs.Control.{next-state}
 use Rattle.engine.proofs.Choices.{acks-made, switch-made}
 
@@ -29,9 +30,9 @@ parts m i acks state switched = record {
 pub parts-of : (m : Machine) (i : Inputs) {a a' : List Bool} {s s' : State} {w w' : List ℕ} → a ≡ a' → s ≡ s' → w ≡ w' → parts m i a s w ≡ parts m i a' s' w'
 parts-of m i p q r = cc
 
-pub gates-are-rules : GatesAreRules
+pub by-the-rules : (m : Machine) (i : Inputs) → Bytes (secondRow (m .rows)) → Held (m .state) → gateStepOf m i ≡ unreported (stepOf m i)
 unfolding rowsAfter
-gates-are-rules m i bytes held =
+by-the-rules m i bytes held =
     parts-of m i (acks-made (m .state) held (i .acks)) (next-state (m .state) (secondRow (m .rows)) (i .frame) held)
     (switch-made (m .state) held (secondRow (m .rows)) (λ h _. bytes h))
 

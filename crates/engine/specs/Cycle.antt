@@ -1,10 +1,8 @@
 -- A cycle of the gate engine. It answers what the plain cycle does, and reports nothing.
-use mathlib.Core.Path.{_≡_}
 use Rattle.fabric.specs.declared.cycle.Inputs.{Inputs}
 use Rattle.fabric.specs.declared.cycle.Cycled.{Cycled}
-use Rattle.states.specs.State.{Held, firstRow, secondRow, switchRow}
-use Rattle.fabric.specs.Cycle.{Machine, shown, stepOf}
-use Rattle.records.specs.Record.{Bytes}
+use Rattle.states.specs.State.{firstRow, secondRow, switchRow}
+use Rattle.fabric.specs.Cycle.{Machine, shown}
 use Rattle.engine.specs.declared.cycle.GateCycled.{GateCycled}
 use Rattle.engine.specs.Wiring.{gateState, gateAcks, gateSwitch}
 
@@ -33,7 +31,3 @@ unreported c = record {
   switched = c .switched;
   heads = c .heads;
 }
-
--- The gate engine's cycle is rules 1 to 7, for every state whose holders are inputs' numbers.
-abbrev pub GatesAreRules : Type 0
-GatesAreRules = (m : Machine) (i : Inputs) → Bytes (secondRow (m .rows)) → Held (m .state) → gateStepOf m i ≡ unreported (stepOf m i)

@@ -3,14 +3,8 @@
 //! saved in 18 bytes by the crate `saved`.
 
 mod image;
-mod parts;
 
 pub use image::byte_at;
 pub use image::image_of;
 pub use image::rows_from;
 pub use image::state_from;
-pub use parts::long_at;
-pub use parts::put_bytes;
-pub use parts::put_number;
-pub use parts::put_state;
-pub use parts::word_at;

@@ -9,12 +9,15 @@ use Rattle.fabric.specs.Cycle.{Machine, rowsAfter, stepped, stepOf}
 use Rattle.fabric.specs.Run.{resetMachine}
 use Rattle.records.specs.Record.{Bytes}
 use Rattle.engine.specs.Cycle.{gateStepOf, unreported}
-use Rattle.engine.proofs.Cycles.{gates-are-rules}
+use Rattle.engine.proofs.Cycles.{by-the-rules}
 use Rattle.runs.specs.Run.{Run}
 use Rattle.runs.proofs.Accepting.{reset-accepted, cycle-accepted}
 use Rattle.runs.proofs.Showing.{zero-row}
 use Rattle.runs.proofs.Demand.{demand-3}
-use Rattle.promises.specs.Gates.{machineLeft, GateRun, SendsBytes, Fit, GatesByRules, GatesDemandThree}
+use Rattle.promises.specs.Gates.{GatesAreRules, machineLeft, GateRun, SendsBytes, Fit, GatesByRules, GatesDemandThree}
+
+pub gates-are-rules : GatesAreRules
+gates-are-rules = by-the-rules
 
 module _ (m : Machine) (i : Inputs) (f : Fit m) where
   same-answer : gateStepOf m i ≡ unreported (stepOf m i)

@@ -1,8 +1,8 @@
--- A run by gates is a run by the rules, and shows the same, so whatever is said of runs is said of the gate engine.
+-- A cycle by gates is a cycle by the rules, and so is a run, so whatever is said of runs is said of the gate engine.
 use mathlib.Core.Path.{_≡_}
 use mathlib.Core.List.{[], _∷_}
 use Prim.Native.Nat.{ℕ, suc}
-use Rattle.states.specs.State.{firstRow, secondRow}
+use Rattle.states.specs.State.{Held, firstRow, secondRow}
 use Rattle.fabric.specs.declared.cycle.Inputs.{Inputs}
 use Rattle.fabric.specs.Cycle.{Machine, machine, stepOf}
 use Rattle.fabric.specs.Run.{resetMachine}
@@ -12,11 +12,16 @@ use Rattle.engine.specs.Cycle.{gateStepOf, unreported}
 use Rattle.runs.specs.Run.{Run, Accepted}
 use Rattle.runs.specs.Demand.{Demand}
 
+-- A cycle by gates, over the meaning of the gate words, is rules 1 to 7: it answers what the plain cycle does, without a report, for every
+-- state whose holders are inputs' numbers.
+abbrev pub GatesAreRules : Type 0
+GatesAreRules = (m : Machine) (i : Inputs) → Bytes (secondRow (m .rows)) → Held (m .state) → gateStepOf m i ≡ unreported (stepOf m i)
+
 -- the machine that a cycle by gates leaves
 abbrev pub machineLeft : GateCycled → Machine
 machineLeft c = machine (c .state) (c .first ∷ c .second ∷ c .switched ∷ c .heads ∷ [])
 
--- A run by gates: each machine is what the cycle before it leaves, over the meaning of the gate words.
+-- A run by gates: each machine is what the cycle before it leaves.
 pub record GateRun : Type 0 where
   pub at : ℕ → Machine
   pub ins : ℕ → Inputs

@@ -11,7 +11,7 @@ use Rattle.text.specs.Ascii.{ascii}
 use Rattle.text.specs.Page.{Page, Wrote}
 use Rattle.text.proofs.Pages.{spelt}
 use Rattle.routing.proofs.Fours.{and-right}
-use Rattle.image.specs.Parts.{wordAt}
+use Rattle.parts.specs.Parts.{wordAt}
 use Rattle.records.specs.Record.{byteAt}
 use Rattle.requests.specs.Letter.{tooLong, lineOf}
 use Rattle.requests.specs.Reply.{payloadLength, Said, lastly, answered, replyOf}

@@ -6,7 +6,7 @@ use Prim.Native.Char.{code}
 use lib.Dec.{eqb, ltb, leb}
 use lib.ListN.{length}
 use Rattle.text.specs.Ascii.{ascii}
-use Rattle.image.specs.Parts.{wordAt}
+use Rattle.parts.specs.Parts.{wordAt}
 use Rattle.call_cycle.specs.Cycle.{cycleLine}
 use Rattle.call_replay.specs.Replay.{replayLine}
 use Rattle.call_replay.specs.State.{saveLine, takeUpLine}

@@ -6,7 +6,7 @@ use lib.Dec.{eqb, ltb, leb}
 use lib.ListN.{length}
 use Rattle.text.specs.Ascii.{ascii}
 use Rattle.records.specs.Record.{byteAt}
-use Rattle.image.specs.Parts.{wordAt}
+use Rattle.parts.specs.Parts.{wordAt}
 use Rattle.requests.specs.Letter.{tooLong, lineOf}
 
 -- how many bytes of payload there are to read

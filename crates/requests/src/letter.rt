@@ -10,7 +10,7 @@ pub(crate) fn too_long(letter: u8, payload: &[u8]) -> bool
     let n = payload.len();
     let replays = ((letter == b'R') | (letter == b'G')) & (29 <= n);
     let saves = (letter == b'S') & (n == 29);
-    (replays | saves) & (65536 < image::word_at(payload, 25))
+    (replays | saves) & (65536 < parts::word_at(payload, 25))
 }
 
 pub(crate) fn put_line(out: &mut [u8], letter: u8, payload: &[u8]) -> usize

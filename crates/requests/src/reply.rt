@@ -16,7 +16,7 @@ pub struct Reply {
 pub fn payload_length(header: &[u8]) -> usize
     ensures { λ r. ⌜ (r ≡ payloadLength (now (header .entry))) × (r ≤ 65536) ⌝ }
 {
-    let n = image::word_at(header, 1);
+    let n = parts::word_at(header, 1);
     if (header.len() == 5) & (n <= 65536) {
         n as usize
     } else {
@@ -42,7 +42,7 @@ pub fn put_reply(out: &mut [u8], header: &[u8], payload: &[u8]) -> Reply
     if header.len() < 5 {
         return put_last(out, b"cut short\n");
     }
-    let wanted = image::word_at(header, 1);
+    let wanted = parts::word_at(header, 1);
     if 65536 < wanted {
         return put_last(out, b"too long\n");
     }

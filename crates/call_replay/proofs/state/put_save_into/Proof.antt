@@ -6,7 +6,7 @@ use Rattle.routing.proofs.Equal.{two}
 use Rattle.states.specs.declared.state.State.{State}
 use Rattle.fabric.specs.Cycle.{Machine, machine}
 use Rattle.saved.specs.Saved.{saveRefusal, saveWrites}
-use Rattle.image.specs.Parts.{numberText, bytesText}
+use Rattle.parts.specs.Parts.{numberText, bytesText}
 use Rattle.call_replay.proofs.state.put_save_into.Statement.{statement}
 use Rattle.call_replay.proofs.state.put_save_into.Tie as tie
 

@@ -1,8 +1,8 @@
 use borrow.Author.Needs.{needs}
 use borrow.Author.Tests.{eq-eqb, ne-eqb}
 use Rattle.text.proofs.Pages.{spelt}
-use Rattle.image.proofs.parts.put_bytes.Statement.{statement}
-use Rattle.image.proofs.parts.put_bytes.Tie as tie
+use Rattle.parts.proofs.parts.put_bytes.Statement.{statement}
+use Rattle.parts.proofs.parts.put_bytes.Tie as tie
 
 returns : tie.Need-returns
 returns c = spelt (c .before .before .put-byte .ensures) rw (eq-eqb _ _ (c .before .before .before .before .if1 .taken))

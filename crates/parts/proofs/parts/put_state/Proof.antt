@@ -2,8 +2,8 @@ use mathlib.Core.Path.{ap}
 use borrow.Author.Needs.{needs}
 use Rattle.text.specs.Digits.{hexes}
 use Rattle.text.proofs.Pages.{spelt}
-use Rattle.image.proofs.parts.put_state.Statement.{statement}
-use Rattle.image.proofs.parts.put_state.Tie as tie
+use Rattle.parts.proofs.parts.put_state.Statement.{statement}
+use Rattle.parts.proofs.parts.put_state.Tie as tie
 
 returns : tie.Need-returns
 returns c = spelt (c .before .before .put-hex .ensures) (ap hexes (c .before .before .before .before .before .image-of .ensures))

@@ -4,8 +4,7 @@ ghost use mathlib.Core.Path.{_≡_};
 ghost use Prim.Native.Nat.{_<_};
 ghost use Rattle.text.specs.Page.{page, Wrote};
 ghost use Rattle.fabric.specs.Cycle.{machine};
-ghost use Rattle.image.specs.Parts.{wordAt, longAt, bytesText, stateText, numberText};
-use super::image;
+ghost use Rattle.parts.specs.Parts.{wordAt, longAt, bytesText, stateText, numberText};
 use states::State;
 
 fn wide(b: u8) -> u64

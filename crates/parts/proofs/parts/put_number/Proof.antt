@@ -1,7 +1,7 @@
 use borrow.Author.Needs.{needs}
 use Rattle.text.proofs.Pages.{_then_}
-use Rattle.image.proofs.parts.put_number.Statement.{statement}
-use Rattle.image.proofs.parts.put_number.Tie as tie
+use Rattle.parts.proofs.parts.put_number.Statement.{statement}
+use Rattle.parts.proofs.parts.put_number.Tie as tie
 
 returns : tie.Need-returns
 returns c = c .before .before .before .before .before .before .put-decimal .ensures then c .before .before .put-byte .ensures
