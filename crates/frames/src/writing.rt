@@ -1,0 +1,78 @@
+// A frame's records, written at the start of a lent buffer.
+ghost use mathlib.Core.Path.{_≡_};
+ghost use mathlib.Core.List.{[], _∷_};
+ghost use lib.ListN.{length};
+ghost use Prim.Native.Nat.{_+_, _≤_};
+ghost use Rattle.text.specs.Page.{page, Wrote};
+ghost use Rattle.frames.specs.Plan.{planned, sentOf};
+ghost use Rattle.frames.specs.Refusal.{writeRefusal};
+ghost use Rattle.frames.specs.Writing.{frameRecords, frameWrites};
+use super::refusal;
+use fabric::Inputs;
+
+// What an input with this cell sends in cycle k, with the headers in cycle `first`.
+fn sent(first: usize, cell: &[u8], k: usize) -> u8
+    ensures { λ r. ⌜ r ≡ sentOf first (now (cell .entry)) k ⌝ }
+{
+    if k < first {
+        return 0;
+    }
+    image::byte_at(cell, k - first)
+}
+
+fn put_records(
+    out: &mut [u8],
+    gap: usize,
+    cycles: usize,
+    acks: [bool; 4],
+    cell0: &[u8],
+    cell1: &[u8],
+    cell2: &[u8],
+    cell3: &[u8],
+) -> usize
+    requires { ⌜ gap ≤ 16 ⌝ }
+    ensures { λ r. ⌜ Wrote (page (now (out .entry)) 0) (frameRecords (planned gap cycles acks (now (cell0 .entry) ∷ now (cell1 .entry) ∷ now (cell2 .entry) ∷ now (cell3 .entry) ∷ []))) (page (now (out .exit)) r) ⌝ }
+{
+    let first = gap + 1;
+    let mut next: usize = 0;
+    let mut k: usize = 0;
+    while k < cycles {
+        let i = Inputs {
+            frame: k == 0,
+            bytes: [
+                sent(first, cell0, k),
+                sent(first, cell1, k),
+                sent(first, cell2, k),
+                sent(first, cell3, k),
+            ],
+            acks,
+        };
+        let record = records::record_of(i);
+        next = text::put_text(&mut *out, next, &record);
+        k += 1;
+    }
+    next
+}
+
+// Writes the records of one frame, 5 bytes for each of its cycles, and answers 0; or refuses by its number and writes nothing.
+pub fn write_frame(
+    out: &mut [u8],
+    gap: usize,
+    cycles: usize,
+    acks: [bool; 4],
+    cell0: &[u8],
+    cell1: &[u8],
+    cell2: &[u8],
+    cell3: &[u8],
+) -> u8
+    ensures number { λ r. ⌜ r ≡ writeRefusal (planned gap cycles acks (now (cell0 .entry) ∷ now (cell1 .entry) ∷ now (cell2 .entry) ∷ now (cell3 .entry) ∷ [])) (length (now (out .entry))) ⌝ }
+    ensures writes { λ r. ⌜ now (out .exit) ≡ frameWrites (planned gap cycles acks (now (cell0 .entry) ∷ now (cell1 .entry) ∷ now (cell2 .entry) ∷ now (cell3 .entry) ∷ [])) (now (out .entry)) ⌝ }
+{
+    let room = out.len();
+    let number = refusal::write_refusal(gap, cycles, acks, cell0, cell1, cell2, cell3, room);
+    if number != 0 {
+        return number;
+    }
+    put_records(out, gap, cycles, acks, cell0, cell1, cell2, cell3);
+    0
+}
