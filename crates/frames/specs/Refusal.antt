@@ -1,14 +1,14 @@
 -- What is refused before a byte is written: 20, 21, 22, 23, 24, the first that applies. Each is looked for in all inputs before the next.
 use mathlib.Core.Bool.{Bool, not, _&&_, _||_}
-use mathlib.Core.List.{List}
+use mathlib.Core.List.{List, []}
 use Prim.Native.Nat.{ℕ, _+_, _-_, _*_}
-use lib.Dec.{eqb, ltb}
-use lib.ListN.{length}
+use lib.Dec.{eqb, leb, ltb}
+use lib.ListN.{length, getD}
 use Rattle.routing.specs.Four.{some}
 use Rattle.routing.specs.Header.{active}
 use Rattle.states.specs.State.{_when_otherwise_}
 use Rattle.records.specs.Record.{byteAt}
-use Rattle.frames.specs.Plan.{Plan, cellOf, isCell, headerIn, bodyIn, th, te}
+use Rattle.frames.specs.Plan.{Plan, isCell, headerIn, bodyIn, th, te}
 
 -- n is not one of low..high
 abbrev pub outside : ℕ → ℕ → ℕ → Bool
@@ -31,7 +31,11 @@ bodyWrong cell = isCell cell && (outside 1 64 (length (bodyIn cell)) || endsInZe
 
 -- 23: the last body byte, which is sent in cycle th + the body's length, is sent in te-1 or later
 abbrev pub tooLate : ℕ → ℕ → List ℕ → Bool
-tooLate first next cell = isCell cell && not (ltb (first + length (bodyIn cell)) (next - 1))
+tooLate first next cell = isCell cell && leb (next - 1) (first + length (bodyIn cell))
+
+-- one of the four cells has it
+abbrev pub inSome : (List ℕ → Bool) → List (List ℕ) → Bool
+inSome wrong cells = some (λ i. wrong (getD cells i []))
 
 -- 24: the buffer has no room for the frame's records
 abbrev pub noRoom : ℕ → ℕ → Bool
@@ -40,8 +44,8 @@ noRoom cycles room = ltb room (5 * cycles)
 unfoldable pub writeRefusal : Plan → ℕ → ℕ
 writeRefusal p room =
     20 when outsideLimits (p .gap) (p .cycles) otherwise
-    21 when some (λ i. headerInactive (cellOf p i)) otherwise
-    22 when some (λ i. bodyWrong (cellOf p i)) otherwise
-    23 when some (λ i. tooLate (th p) (te p) (cellOf p i)) otherwise
+    21 when inSome headerInactive (p .cells) otherwise
+    22 when inSome bodyWrong (p .cells) otherwise
+    23 when inSome (tooLate (th p) (te p)) (p .cells) otherwise
     24 when noRoom (p .cycles) room otherwise
     0

@@ -1,17 +1,15 @@
 // What is refused, known before the first byte is written.
 ghost use mathlib.Core.Path.{_≡_};
 ghost use mathlib.Core.List.{[], _∷_};
-ghost use Prim.Native.Nat.{_+_, _≤_};
-ghost use Rattle.frames.specs.Plan.{planned, isCell};
-ghost use Rattle.frames.specs.Refusal.{outsideLimits, headerInactive, bodyWrong, tooLate, writeRefusal};
+ghost use Prim.Native.Nat.{_+_};
+ghost use Rattle.frames.specs.Plan.{planned};
+ghost use Rattle.frames.specs.Refusal.{outsideLimits, headerInactive, bodyWrong, tooLate, inSome, writeRefusal};
 
-fn outside_limits(gap: usize, cycles: usize) -> bool
+fn outside_limits(gap: u8, cycles: u16) -> bool
     ensures { λ r. ⌜ r ≡ outsideLimits gap cycles ⌝ }
 {
-    if (gap < 1) | (16 < gap) {
-        return true;
-    }
-    (cycles < gap + 2) | (4096 < cycles)
+    let shortest = gap as u16 + 2;
+    ((gap < 1) | (16 < gap)) | ((cycles < shortest) | (4096 < cycles))
 }
 
 fn header_inactive(cell: &[u8]) -> bool
@@ -26,31 +24,61 @@ fn header_inactive(cell: &[u8]) -> bool
 fn body_wrong(cell: &[u8]) -> bool
     ensures { λ r. ⌜ r ≡ bodyWrong (now (cell .entry)) ⌝ }
 {
-    let n = cell.len();
-    if n == 0 {
+    if cell.len() == 0 {
         return false;
     }
-    if (n < 2) | (65 < n) {
+    let n = cell.len() - 1;
+    if (n < 1) | (64 < n) {
         return true;
     }
-    cell[n - 1] == 0
+    cell[n] == 0
 }
 
-// For headers in cycle `first` and the next frame start in cycle `next`.
-fn too_late(first: usize, next: usize, cell: &[u8]) -> bool
-    requires { ⌜ (first ≤ 17) × (1 ≤ next) ⌝ }
-    ensures { λ r. ⌜ r ≡ tooLate first next (now (cell .entry)) ⌝ }
+// The header is sent in cycle gap + 1, so that the cell is sent up to cycle gap + its length, and the frame's last cycle is cycles - 1.
+fn too_late(gap: u8, cycles: u16, cell: &[u8]) -> bool
+    ensures { λ r. ⌜ r ≡ tooLate (gap + 1) cycles (now (cell .entry)) ⌝ }
 {
     if cell.len() == 0 {
         return false;
     }
-    next - 1 <= first + (cell.len() - 1)
+    cycles as usize <= gap as usize + 1 + cell.len()
+}
+
+fn some_inactive(cell0: &[u8], cell1: &[u8], cell2: &[u8], cell3: &[u8]) -> bool
+    ensures { λ r. ⌜ r ≡ inSome headerInactive (now (cell0 .entry) ∷ now (cell1 .entry) ∷ now (cell2 .entry) ∷ now (cell3 .entry) ∷ []) ⌝ }
+{
+    header_inactive(cell0)
+        | header_inactive(cell1)
+        | header_inactive(cell2)
+        | header_inactive(cell3)
+}
+
+fn some_wrong(cell0: &[u8], cell1: &[u8], cell2: &[u8], cell3: &[u8]) -> bool
+    ensures { λ r. ⌜ r ≡ inSome bodyWrong (now (cell0 .entry) ∷ now (cell1 .entry) ∷ now (cell2 .entry) ∷ now (cell3 .entry) ∷ []) ⌝ }
+{
+    body_wrong(cell0) | body_wrong(cell1) | body_wrong(cell2) | body_wrong(cell3)
+}
+
+fn some_late(
+    gap: u8,
+    cycles: u16,
+    cell0: &[u8],
+    cell1: &[u8],
+    cell2: &[u8],
+    cell3: &[u8],
+) -> bool
+    ensures { λ r. ⌜ r ≡ inSome (tooLate (gap + 1) cycles) (now (cell0 .entry) ∷ now (cell1 .entry) ∷ now (cell2 .entry) ∷ now (cell3 .entry) ∷ []) ⌝ }
+{
+    too_late(gap, cycles, cell0)
+        | too_late(gap, cycles, cell1)
+        | too_late(gap, cycles, cell2)
+        | too_late(gap, cycles, cell3)
 }
 
 // Refusals 20, 21, 22, 23, 24, the first that applies, for a buffer of `room` bytes.
 pub(crate) fn write_refusal(
-    gap: usize,
-    cycles: usize,
+    gap: u8,
+    cycles: u16,
     acks: [bool; 4],
     cell0: &[u8],
     cell1: &[u8],
@@ -63,25 +91,16 @@ pub(crate) fn write_refusal(
     if outside_limits(gap, cycles) {
         return 20;
     }
-    if header_inactive(cell0)
-        | header_inactive(cell1)
-        | header_inactive(cell2)
-        | header_inactive(cell3)
-    {
+    if some_inactive(cell0, cell1, cell2, cell3) {
         return 21;
     }
-    if body_wrong(cell0) | body_wrong(cell1) | body_wrong(cell2) | body_wrong(cell3) {
+    if some_wrong(cell0, cell1, cell2, cell3) {
         return 22;
     }
-    let first = gap + 1;
-    if too_late(first, cycles, cell0)
-        | too_late(first, cycles, cell1)
-        | too_late(first, cycles, cell2)
-        | too_late(first, cycles, cell3)
-    {
+    if some_late(gap, cycles, cell0, cell1, cell2, cell3) {
         return 23;
     }
-    if room < 5 * cycles {
+    if room < 5 * cycles as usize {
         return 24;
     }
     0

@@ -2,7 +2,6 @@
 ghost use mathlib.Core.Path.{_≡_};
 ghost use mathlib.Core.List.{[], _∷_};
 ghost use lib.ListN.{length};
-ghost use Prim.Native.Nat.{_+_, _≤_};
 ghost use Rattle.text.specs.Page.{page, Wrote};
 ghost use Rattle.frames.specs.Plan.{planned, sentOf};
 ghost use Rattle.frames.specs.Refusal.{writeRefusal};
@@ -22,21 +21,21 @@ fn sent(first: usize, cell: &[u8], k: usize) -> u8
 
 fn put_records(
     out: &mut [u8],
-    gap: usize,
-    cycles: usize,
+    gap: u8,
+    cycles: u16,
     acks: [bool; 4],
     cell0: &[u8],
     cell1: &[u8],
     cell2: &[u8],
     cell3: &[u8],
 ) -> usize
-    requires { ⌜ gap ≤ 16 ⌝ }
     ensures { λ r. ⌜ Wrote (page (now (out .entry)) 0) (frameRecords (planned gap cycles acks (now (cell0 .entry) ∷ now (cell1 .entry) ∷ now (cell2 .entry) ∷ now (cell3 .entry) ∷ []))) (page (now (out .exit)) r) ⌝ }
 {
-    let first = gap + 1;
+    let first = gap as usize + 1;
+    let n = cycles as usize;
     let mut next: usize = 0;
     let mut k: usize = 0;
-    while k < cycles {
+    while k < n {
         let i = Inputs {
             frame: k == 0,
             bytes: [
@@ -47,8 +46,8 @@ fn put_records(
             ],
             acks,
         };
-        let record = records::record_of(i);
-        next = text::put_text(&mut *out, next, &record);
+        let five = records::record_of(i);
+        next = text::put_text(&mut *out, next, &five);
         k += 1;
     }
     next
@@ -57,8 +56,8 @@ fn put_records(
 // Writes the records of one frame, 5 bytes for each of its cycles, and answers 0; or refuses by its number and writes nothing.
 pub fn write_frame(
     out: &mut [u8],
-    gap: usize,
-    cycles: usize,
+    gap: u8,
+    cycles: u16,
     acks: [bool; 4],
     cell0: &[u8],
     cell1: &[u8],
