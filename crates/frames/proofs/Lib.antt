@@ -1,3 +1,6 @@
 pub mod Cells
 pub mod Refusals
 pub mod Writes
+pub mod Lists
+pub mod Searches
+pub mod Buffers

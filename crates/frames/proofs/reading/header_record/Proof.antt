@@ -1,40 +1,38 @@
+use mathlib.Core.Path.{_≡_, refl, sym, ap, _∙_}
+use Prim.Native.Nat.{_-_}
+use native.Mathlib.Omega.{arith}
+use borrow.Author.Needs.{needs}
+use Rattle.routing.specs.Header.{someActive}
+use Rattle.fabric.specs.declared.cycle.Inputs.{Inputs}
+use Rattle.records.specs.Record.{inputsFrom}
+use Rattle.frames.specs.Reading.{rowsFrom, fromHeader}
+use Rattle.frames.proofs.Searches.{found, passed, none}
 use Rattle.frames.proofs.reading.header_record.Statement.{statement}
 use Rattle.frames.proofs.reading.header_record.Tie as tie
 
 abbrev Inv-loop : tie.InvT-loop
-Inv-loop frame n k₀ k = ?
+Inv-loop frame n k₀ k = fromHeader (rowsFrom frame 0) ≡ fromHeader (rowsFrom frame k)
 
 abbrev μ-loop : tie.MeasureT-loop
-μ-loop frame n k₀ k = ?
-
-loop-holds : tie.Need-loop-holds Inv-loop μ-loop
-loop-holds c = ?
-
-record-at-requires : tie.Need-record-at-requires Inv-loop μ-loop
-record-at-requires c κs = ?
-
-inputs-from-requires : tie.Need-inputs-from-requires Inv-loop μ-loop
-inputs-from-requires c κs = ?
-
-routes-requires : tie.Need-routes-requires Inv-loop μ-loop
-routes-requires c κs = ?
+μ-loop frame n k₀ k = n - k
 
 returns : tie.Need-returns Inv-loop μ-loop
-returns c = ?
-
-add-k : tie.Need-add-k Inv-loop μ-loop
-add-k c = ?
-
-loop-less : tie.Need-loop-less Inv-loop μ-loop
-loop-less c = ?
+returns c =
+    let i = c .before .before .before in
+    let l = c .before .before .before .before .before .before .loop in
+    l .inv ∙ found _ (l .k) (c .before .before .before .before .before .loop-test .taken) (ap (λ (x : Inputs). someActive (x .bytes)) (sym (i .inputs-from .ensures ∙ ap inputsFrom (i .before .record-at .ensures))) ∙ sym (c .before .routes .ensures) ∙ c .if1 .taken)
 
 loop-again : tie.Need-loop-again Inv-loop μ-loop
-loop-again c = ?
+loop-again c =
+    let i = c .before .before .before in
+    let l = c .before .before .before .before .before .before .loop in
+    l .inv ∙ passed _ (l .k) (c .before .before .before .before .before .loop-test .taken) (ap (λ (x : Inputs). someActive (x .bytes)) (sym (i .inputs-from .ensures ∙ ap inputsFrom (i .before .record-at .ensures))) ∙ sym (c .before .routes .ensures) ∙ c .if1 .left)
 
 returns-2 : tie.Need-returns-2 Inv-loop μ-loop
-returns-2 c = ?
+returns-2 c = c .before .loop .inv ∙ none _ _ (c .loop-test .left)
 
 pub header-record-spec : {M : Type 1} → statement M
 header-record-spec =
     tie.close
-    (tie.spec Inv-loop μ-loop loop-holds record-at-requires inputs-from-requires routes-requires returns add-k loop-less loop-again returns-2)
+    (tie.spec Inv-loop μ-loop (λ c. refl) (λ c κs. search needs) (λ c κs. search needs) (λ c κs. search needs) returns (λ c. omega arith)
+    (λ c. omega arith) loop-again returns-2)

@@ -1,48 +1,27 @@
+use mathlib.Core.Path.{_≡_}
+use native.Mathlib.Omega.{arith}
 use borrow.Author.Needs.{needs}
+use Rattle.frames.proofs.Buffers.{cell-bytes, cell-copied, cell-left}
 use Rattle.frames.proofs.reading.read_cell.Statement.{statement}
 use Rattle.frames.proofs.reading.read_cell.Tie as tie
-use Rattle.frames.proofs.reading.read_cell.Reads as reads
-use Rattle.frames.proofs.reading.read_cell.Lts as lts
-use Rattle.frames.proofs.reading.cell_end.Reads as cell-end-reads
-use Rattle.frames.proofs.reading.header_record.Reads as header-record-reads
-use Rattle.frames.proofs.reading.put_sent.Reads as put-sent-reads
 
--- src/reading.rt:67:9
-header-record-requires : tie.Need-header-record-requires
-header-record-requires c κs = search needs
-
--- src/reading.rt:68:9
-cell-end-requires : tie.Need-cell-end-requires
-cell-end-requires c κs = search needs
-
--- src/reading.rt:69:13
 sub-n : tie.Need-sub-n
-sub-n c = search needs
+sub-n c = c .cell-end .ensures .0
 
--- src/reading.rt:71:9
-put-sent-requires : tie.Need-put-sent-requires
-put-sent-requires c κs = search needs
-
--- src/reading.rt:63:1
-same-length : tie.Need-same-length
-same-length c = search needs
-
--- src/reading.rt:63:1
 returns : tie.Need-returns
-returns c = ?
+returns c =
+    let e = c .before .before .before .before .before .cell-end in
+    let h = c .before .before .before .before .before .before .header-record in
+    let a = c .before .before .before .before .before .before .before .before .before .args in
+    (cell-bytes (a .frame .now) (a .input) (h .result) (e .result) (h .ensures) (e .ensures .1), cell-copied (a .frame .now) (a .input) (h .result) (e .result) (h .ensures) (e .ensures .1) (c .before .before .before .before .if1 .taken) (c .before .before .put-sent .ensures))
 
--- src/reading.rt:63:1
 returns-2 : tie.Need-returns-2
-returns-2 c = ?
+returns-2 c =
+    let e = c .before .cell-end in
+    let h = c .before .before .header-record in
+    let a = c .before .before .before .before .before .args in (cell-bytes (a .frame .now) (a .input) (h .result) (e .result) (h .ensures) (e .ensures .1), cell-left (a .frame .now) (a .input) (h .result) (e .result) (h .ensures) (e .ensures .1) (c .if1 .left))
 
 pub read-cell-spec : {M : Type 1} → statement M
 read-cell-spec =
     tie.close
-    (tie.spec
-    header-record-requires
-    cell-end-requires
-    sub-n
-    put-sent-requires
-    same-length
-    returns
-    returns-2)
+    (tie.spec (λ c κs. search needs) (λ c κs. search needs) sub-n (λ c κs. search needs) (λ c. search needs) returns returns-2)

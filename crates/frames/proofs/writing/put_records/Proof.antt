@@ -30,7 +30,7 @@ loop-again c =
     let s = c .before .before .before .before .before .before in
     let five = c .before .before .before .before .before .record-of .ensures ∙ made p (l .k) (s .before .before .before .sent .ensures) (s .before .before .sent2 .ensures) (s .before .sent3 .ensures) (s .sent4 .ensures) in
     let put = c .before .before .put-text in
-    (one-more p (l .k) (l .inv .0) five (put .ensures), put .kept .0 ∙ l .inv .1, c .before .before .before .before .before .before .before .before .before .before .loop-test .taken)
+    (one-more p (l .k) (l .inv .0) five (put .ensures), put .kept .0 ∙ l .inv .1, omega (arith, c .before .before .before .before .before .before .before .before .before .before .loop-test .taken))
 
 same-length : tie.Need-same-length Inv-loop μ-loop
 same-length c = c .before .loop .inv .1
