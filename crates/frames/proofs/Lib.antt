@@ -4,3 +4,6 @@ pub mod Writes
 pub mod Lists
 pub mod Searches
 pub mod Buffers
+pub mod Placed
+pub mod Takings
+pub mod ReadBack

@@ -5,6 +5,7 @@ use mathlib.Core.List.{List, [], _∷_, _++_, map}
 use mathlib.Core.Logic.{⊎-elim}
 use Prim.Native.Nat.{ℕ, zero, suc, _+_, _-_, _%_, _<_, _≤_}
 use native.Mathlib.Nat.{eq-or-lt-of-le}
+use native.Mathlib.Numerals.{add-one}
 use native.Mathlib.Omega.{arith}
 use lib.Dec.{eqb, ltb, leb}
 use lib.ListN.{length, getD, drop}
@@ -31,27 +32,36 @@ zero-at (suc (suc (suc (suc i)))) = refl
 odd : {x : ℕ} → x ≡ 0 → x % 2 ≡ 1 → ⊥
 odd e h = omega (arith, e, h)
 
+-- the search for the first row with an active bit, in rows from k on up to n
+module _ (row : ℕ → List ℕ) (n : ℕ) where
+  abbrev from : ℕ → List (List ℕ)
+  from k = listed row k (n - k)
+
+  pub found : (k : ℕ) → k < n → someActive (row k) ≡ true → fromHeader (from k) ≡ from k
+  unfolding fromHeader
+  found k h e =
+      let next = listed-next row k n h in ap fromHeader next ∙ ap (λ (b : Bool). cond b (row k ∷ from (k + 1)) (fromHeader (from (k + 1)))) e ∙ sym next
+
+  pub passed : (k : ℕ) → k < n → someActive (row k) ≡ false → fromHeader (from k) ≡ fromHeader (from (k + 1))
+  unfolding fromHeader
+  passed k h e =
+      ap fromHeader (listed-next row k n h) ∙ ap (λ (b : Bool). cond b (row k ∷ from (k + 1)) (fromHeader (from (k + 1)))) e
+
+  pub none : (k : ℕ) → n ≤ k → fromHeader (from k) ≡ from k
+  unfolding fromHeader
+  none k h = let e = listed-none row k n h in ap fromHeader e ∙ sym e
+
+  -- it passes all rows that have none
+  pub passed-all : (d : ℕ) → d ≤ n → ((k : ℕ) → k < d → someActive (row k) ≡ false) → fromHeader (from 0) ≡ fromHeader (from d)
+  passed-all zero h e = refl
+  passed-all (suc d) h e =
+      passed-all d (omega (arith, h)) (λ k l. e k (omega (arith, l)))
+      ∙ passed d (omega (arith, h)) (e d (omega arith))
+      ∙ ap (λ (k : ℕ). fromHeader (from k)) (add-one d)
+
 module _ (frame : List ℕ) where
   abbrev row : ℕ → List ℕ
   row k = inputsIn frame k .bytes
-
-  -- the search for the first row with an active bit
-  module _ (k : ℕ) where
-    pub found : k < records frame → someActive (row k) ≡ true → fromHeader (rowsFrom frame k) ≡ rowsFrom frame k
-    unfolding fromHeader
-    found h e =
-        let next = listed-next row k (records frame) h in
-        ap fromHeader next ∙ ap (λ (b : Bool). cond b (row k ∷ rowsFrom frame (k + 1)) (fromHeader (rowsFrom frame (k + 1)))) e ∙ sym next
-
-    pub passed : k < records frame → someActive (row k) ≡ false → fromHeader (rowsFrom frame k) ≡ fromHeader (rowsFrom frame (k + 1))
-    unfolding fromHeader
-    passed h e =
-        ap fromHeader (listed-next row k (records frame) h) ∙ ap (λ (b : Bool). cond b (row k ∷ rowsFrom frame (k + 1)) (fromHeader (rowsFrom frame (k + 1)))) e
-
-    pub none : records frame ≤ k → fromHeader (rowsFrom frame k) ≡ rowsFrom frame k
-    unfolding fromHeader
-    none h =
-        let e = listed-none row k (records frame) h in ap fromHeader e ∙ sym e
 
   module _ (i at : ℕ) where
     abbrev f : ℕ → ℕ

@@ -59,14 +59,7 @@ fn some_wrong(cell0: &[u8], cell1: &[u8], cell2: &[u8], cell3: &[u8]) -> bool
     body_wrong(cell0) | body_wrong(cell1) | body_wrong(cell2) | body_wrong(cell3)
 }
 
-fn some_late(
-    gap: u8,
-    cycles: u16,
-    cell0: &[u8],
-    cell1: &[u8],
-    cell2: &[u8],
-    cell3: &[u8],
-) -> bool
+fn some_late(gap: u8, cycles: u16, cell0: &[u8], cell1: &[u8], cell2: &[u8], cell3: &[u8]) -> bool
     ensures { λ r. ⌜ r ≡ inSome (tooLate (gap + 1) cycles) (now (cell0 .entry) ∷ now (cell1 .entry) ∷ now (cell2 .entry) ∷ now (cell3 .entry) ∷ []) ⌝ }
 {
     too_late(gap, cycles, cell0)

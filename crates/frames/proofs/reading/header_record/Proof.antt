@@ -5,6 +5,7 @@ use borrow.Author.Needs.{needs}
 use Rattle.routing.specs.Header.{someActive}
 use Rattle.fabric.specs.declared.cycle.Inputs.{Inputs}
 use Rattle.records.specs.Record.{inputsFrom}
+use Rattle.capture.specs.Capture.{records, inputsIn}
 use Rattle.frames.specs.Reading.{rowsFrom, fromHeader}
 use Rattle.frames.proofs.Searches.{found, passed, none}
 use Rattle.frames.proofs.reading.header_record.Statement.{statement}
@@ -19,17 +20,20 @@ abbrev μ-loop : tie.MeasureT-loop
 returns : tie.Need-returns Inv-loop μ-loop
 returns c =
     let i = c .before .before .before in
+    let frame = c .before .before .before .before .before .before .before .before .args .frame .now in
     let l = c .before .before .before .before .before .before .loop in
-    l .inv ∙ found _ (l .k) (c .before .before .before .before .before .loop-test .taken) (ap (λ (x : Inputs). someActive (x .bytes)) (sym (i .inputs-from .ensures ∙ ap inputsFrom (i .before .record-at .ensures))) ∙ sym (c .before .routes .ensures) ∙ c .if1 .taken)
+    l .inv ∙ found (λ j. inputsIn frame j .bytes) (records frame) (l .k) (c .before .before .before .before .before .loop-test .taken) (ap (λ (x : Inputs). someActive (x .bytes)) (sym (i .inputs-from .ensures ∙ ap inputsFrom (i .before .record-at .ensures))) ∙ sym (c .before .routes .ensures) ∙ c .if1 .taken)
 
 loop-again : tie.Need-loop-again Inv-loop μ-loop
 loop-again c =
     let i = c .before .before .before in
+    let frame = c .before .before .before .before .before .before .before .before .args .frame .now in
     let l = c .before .before .before .before .before .before .loop in
-    l .inv ∙ passed _ (l .k) (c .before .before .before .before .before .loop-test .taken) (ap (λ (x : Inputs). someActive (x .bytes)) (sym (i .inputs-from .ensures ∙ ap inputsFrom (i .before .record-at .ensures))) ∙ sym (c .before .routes .ensures) ∙ c .if1 .left)
+    l .inv ∙ passed (λ j. inputsIn frame j .bytes) (records frame) (l .k) (c .before .before .before .before .before .loop-test .taken) (ap (λ (x : Inputs). someActive (x .bytes)) (sym (i .inputs-from .ensures ∙ ap inputsFrom (i .before .record-at .ensures))) ∙ sym (c .before .routes .ensures) ∙ c .if1 .left)
 
 returns-2 : tie.Need-returns-2 Inv-loop μ-loop
-returns-2 c = c .before .loop .inv ∙ none _ _ (c .loop-test .left)
+returns-2 c =
+    let frame = c .before .before .before .args .frame .now in c .before .loop .inv ∙ none (λ j. inputsIn frame j .bytes) (records frame) _ (c .loop-test .left)
 
 pub header-record-spec : {M : Type 1} → statement M
 header-record-spec =
