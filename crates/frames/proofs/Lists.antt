@@ -1,10 +1,12 @@
 -- Bytes listed one after the other, and bytes up to the last that is not zero. Assumes nothing.
+use mathlib.Core.Bool.{Bool, true, false, cond}
 use mathlib.Core.Path.{_≡_, refl, sym, ap, _∙_}
 use mathlib.Core.List.{List, [], _∷_, _++_, map}
 use Prim.Native.Nat.{ℕ, zero, suc, _+_, _-_, _<_, _≤_}
 use native.Mathlib.Nat.{add-zero}
 use native.Mathlib.Numerals.{add-one}
 use native.Mathlib.Omega.{arith}
+use lib.Dec.{eqb}
 use lib.ListN.{length, getD, replicate}
 use borrow.Author.Tests.{ne-eqb}
 use Rattle.frames.specs.Listed.{listed, keptBefore, trimmed}
@@ -103,7 +105,7 @@ trimmed-first b l h = go (trimmed l)
     go (c ∷ t) = refl
 
 -- zeros at the end go, however many
-only-zeros : (n : ℕ) → trimmed (replicate n 0) ≡ []
+pub only-zeros : (n : ℕ) → trimmed (replicate n 0) ≡ []
 unfolding trimmed
 only-zeros zero = refl
 only-zeros (suc n) = ap (keptBefore 0) (only-zeros n)
@@ -124,3 +126,17 @@ ends-so (b ∷ c ∷ l) h e =
 
 pub trimmed-back : (l : List ℕ) (n : ℕ) → 1 ≤ length l → (getD l (length l - 1) 0 ≡ 0 → ⊥) → trimmed (l ++ replicate n 0) ≡ l
 trimmed-back l n h e = trimmed-zeros l n ∙ ends-so l h e
+
+-- nothing is added
+kept-less : (b : ℕ) (l : List ℕ) → length (keptBefore b l) ≤ suc (length l)
+kept-less b [] = go (eqb b 0)
+  where
+    go : (t : Bool) → length (cond t [] (b ∷ [])) ≤ 1
+    go true = omega arith
+    go false = omega arith
+kept-less b (c ∷ l) = omega arith
+
+pub trimmed-less : (l : List ℕ) → length (trimmed l) ≤ length l
+unfolding trimmed
+trimmed-less [] = omega arith
+trimmed-less (b ∷ l) = omega (arith, kept-less b (trimmed l), trimmed-less l)

@@ -1,0 +1,1 @@
+//! What written frames do in a run: statements and proofs, no code.
