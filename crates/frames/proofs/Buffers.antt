@@ -1,12 +1,13 @@
 -- What the two calls leave in the lent buffer. Assumes nothing.
 use mathlib.Core.Path.{_≡_, refl, sym, ap, _∙_}
 use mathlib.Core.List.{List, _++_}
-use Prim.Native.Nat.{ℕ, _-_, _<_, _≤_}
+use Prim.Native.Nat.{ℕ, _-_, _*_, _<_, _≤_}
 use native.Mathlib.Omega.{arith}
 use lib.ListN.{length, drop}
 use borrow.Author.Tests.{le-leb, lt-leb, eq-eqb, ne-eqb}
 use Rattle.text.specs.Page.{page, Wrote}
-use Rattle.text.proofs.Room.{behind-it}
+use Rattle.routing.proofs.Equal.{two}
+use Rattle.text.proofs.Room.{stands, behind-it}
 use Rattle.frames.specs.Plan.{Plan, te}
 use Rattle.frames.specs.Refusal.{writeRefusal}
 use Rattle.frames.specs.Writing.{frameRecords, frameWrites}
@@ -22,6 +23,16 @@ module _ (p : Plan) (buffer : List ℕ) {n : ℕ} (is : n ≡ writeRefusal p (le
       let room = taken p (length buffer) (sym is ∙ z) .room-enough in
       let long = records-length p (te p) in
       behind-it w (omega (arith, long, room)) ∙ ap (λ (k : ℕ). frameRecords p ++ drop k buffer) long ∙ rw (eq-eqb _ _ (sym is ∙ z))
+
+  -- and the other way round: a frame that is there was put there
+  pub frame-stands : {after : List ℕ} → n ≡ 0 → after ≡ frameWrites p buffer → Wrote (page buffer 0) (frameRecords p) (page after (5 * te p))
+  frame-stands z e =
+      let long = records-length p (te p) in
+      let room = taken p (length buffer) (sym is ∙ z) .room-enough in
+      let there = stands buffer (frameRecords p) (omega (arith, long, room)) in
+      let all : frameRecords p ++ drop (length (frameRecords p)) buffer ≡ frameWrites p buffer =
+      ap (λ (k : ℕ). frameRecords p ++ drop k buffer) long ∙ rw (eq-eqb _ _ (sym is ∙ z)) in
+      record { left = two page (e ∙ sym all) (sym long) ∙ there .left }
 
   pub frame-refused : (n ≡ 0 → ⊥) → buffer ≡ frameWrites p buffer
   frame-refused h = rw (ne-eqb _ _ (λ z. h (is ∙ z)))

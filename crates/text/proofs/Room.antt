@@ -60,7 +60,10 @@ all-there {bytes = bytes} {text = text} w h =
     (ap (λ (q : Page). q .place) e, ap (λ (q : Page). take (q .place) (q .bytes)) e ∙ take-append-seam text (drop (0 + length text) bytes))
 
 -- and behind it stands what stood there before
-pub behind-it : {bytes after text : List ℕ} {next : ℕ} → Wrote (page bytes 0) text (page after next) → length text ≤ length bytes → after ≡ text ++ drop (length text) bytes
-behind-it {bytes = bytes} {text = text} w h =
+pub stands : (bytes text : List ℕ) → length text ≤ length bytes → Wrote (page bytes 0) text (page (text ++ drop (length text) bytes) (length text))
+stands bytes text h =
     let n : 0 + length text ≡ length text = omega arith in
-    ap (λ (q : Page). q .bytes) (w .left ∙ has-room bytes 0 text (omega (arith, h))) ∙ ap (λ (k : ℕ). text ++ drop k bytes) n
+    record { left = sym (has-room bytes 0 text (omega (arith, h)) ∙ ap (λ (k : ℕ). page (text ++ drop k bytes) k) n) }
+
+pub behind-it : {bytes after text : List ℕ} {next : ℕ} → Wrote (page bytes 0) text (page after next) → length text ≤ length bytes → after ≡ text ++ drop (length text) bytes
+behind-it {bytes = bytes} {text = text} w h = ap (λ (q : Page). q .bytes) (w .left ∙ sym (stands bytes text h .left))
