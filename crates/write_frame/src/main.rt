@@ -1,7 +1,7 @@
 // Writes the frames that standard input orders as a capture to standard output. An order that is refused or cut short ends it with a line on
 // standard error, and nothing of its frame is written.
 ghost use mathlib.Core.Path.{_≡_};
-ghost use Prim.Native.Nat.{_≤_};
+ghost use Prim.Native.Nat.{_+_, _≤_};
 ghost use lib.ListN.{length};
 use input::Filled;
 
@@ -19,6 +19,13 @@ fn blank_page() -> [u8; 20480]
     [0; 20480]
 }
 
+fn fill_between(order: &mut [u8], have: usize, want: usize) -> Filled
+    requires { ⌜ (have ≤ want) × (want ≤ length (now order)) ⌝ }
+    ensures { λ r. ⌜ have + r .length ≤ want ⌝ }
+{
+    input::fill(&mut order[have..want])
+}
+
 // Reads as much as one order has, or what is left of the input.
 fn read_order(order: &mut [u8]) -> Filled
     requires { ⌜ length (now order) ≡ 1032 ⌝ }
@@ -27,7 +34,7 @@ fn read_order(order: &mut [u8]) -> Filled
     let mut have: usize = 0;
     let mut want = orders::order_size(b"");
     while have < want {
-        let more = input::fill(&mut order[have..want]);
+        let more = fill_between(&mut *order, have, want);
         if more.failed | (more.length == 0) {
             return Filled {
                 length: have,
