@@ -1,6 +1,6 @@
-//! Judges the programs `replay` and `probe` from outside.
+//! Judges the programs `replay`, `probe` and `write_frame` from outside.
 //!
-//! `model` says what document 01 asks, `make` thinks up inputs, and `drive`
+//! `model` says what is asked of them, `make` thinks up inputs, and `drive`
 //! runs the programs and compares. The model shares no code with the programs,
 //! so that one mistake can't hide in both.
 

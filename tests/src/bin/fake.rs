@@ -1,7 +1,8 @@
-//! A program that answers from the model, as `replay` or as `probe`, and
-//! wrongly in one way if asked to. The driver tests itself on it.
+//! A program that answers from the model, as `replay`, as `probe` or as
+//! `write_frame`, and wrongly in one way if asked to. The driver tests itself
+//! on it.
 
-use outside_model::model::wrong::{by_name, Wrong};
+use outside_model::model::wrong::{by_name, Wrong, PROGRAMS};
 use outside_model::model::Model;
 use std::io::{self, Read, Write};
 use std::process::ExitCode;
@@ -19,21 +20,27 @@ fn main() -> ExitCode {
     if io::stdin().read_to_end(&mut input).is_err() {
         return ExitCode::FAILURE;
     }
-    let text = match part {
-        "replay" => model.listing(&input).1,
-        "probe" => lines(&model, &input),
+    let (output, errors) = match part {
+        "replay" => (text(&model, &model.listing(&input).1), String::new()),
+        "probe" => (text(&model, &lines(&model, &input)), String::new()),
+        "write" => frames(&model, &input),
         _ => return usage(),
     };
     if model.has(Wrong::Chatter) {
         eprintln!("working");
     }
+    eprint!("{errors}");
     // A reader that has seen enough closes the pipe; that ends the work.
-    let _ = print(&model, &text);
-    ExitCode::from(if model.has(Wrong::BadStatus) { 3 } else { 0 })
+    let _ = print(&model, &output);
+    let refused = !errors.is_empty() && model.has(Wrong::RefusedStatus);
+    ExitCode::from(match model.has(Wrong::BadStatus) {
+        true => 3,
+        false => u8::from(refused),
+    })
 }
 
 fn usage() -> ExitCode {
-    eprintln!("fake replay|probe [--wrong KIND]");
+    eprintln!("fake {} [--wrong KIND]", PROGRAMS.join("|"));
     ExitCode::from(2)
 }
 
@@ -45,9 +52,24 @@ fn lines(model: &Model, input: &[u8]) -> String {
         .collect()
 }
 
-fn print(model: &Model, text: &str) -> io::Result<()> {
+fn text(model: &Model, text: &str) -> Vec<u8> {
+    dressed(model, text).into_bytes()
+}
+
+/// Here the text is on standard error.
+fn frames(model: &Model, input: &[u8]) -> (Vec<u8>, String) {
+    let written = model.written(input);
+    let errors = dressed(model, &written.errors);
+    if model.has(Wrong::Silent) {
+        (Vec::new(), errors)
+    } else {
+        (written.output, errors)
+    }
+}
+
+fn print(model: &Model, output: &[u8]) -> io::Result<()> {
     let mut out = io::stdout().lock();
-    out.write_all(dressed(model, text).as_bytes())?;
+    out.write_all(output)?;
     while model.has(Wrong::Endless) {
         out.write_all(b"and so on\n")?;
     }

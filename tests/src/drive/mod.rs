@@ -1,9 +1,15 @@
 //! Running the programs and comparing what they print with the model.
 
+mod case_tally;
+mod cases;
+mod cell_cases;
+mod compare;
 pub mod difference;
 pub mod examples;
+mod judge;
 pub mod options;
 pub mod program;
 pub mod run;
 pub mod selftest;
 pub mod tally;
+mod wanted;

@@ -1,36 +1,42 @@
 //! A whole run: all pieces of work, shared out among the cores.
 
-use super::difference::{compare, part, Difference, Gap};
+use super::compare::Due;
+use super::difference::Difference;
 use super::examples::Example;
+use super::judge::{judge_batch, judge_example, judge_output};
 use super::program::Program;
 use super::tally::Tally;
 use crate::make::batches::{batch, batches};
 use crate::make::captures::capture;
+use crate::make::inputs::input;
 use crate::make::rng::Rng;
-use crate::model::probe::Reply;
 use crate::model::RIGHT;
 use std::sync::atomic::{AtomicUsize, Ordering};
 use std::sync::Mutex;
 use std::thread;
 
-/// Streams of random numbers, so that captures and batches differ.
+/// Streams of random numbers, so that captures, batches and inputs differ.
 const CAPTURE_STREAM: u64 = 1;
 const BATCH_STREAM: u64 = 2;
+const INPUT_STREAM: u64 = 3;
 
 /// A program that is not given has no work.
 pub struct Plan {
     pub replay: Option<Program>,
     pub probe: Option<Program>,
+    pub write: Option<Program>,
     pub examples: Vec<Example>,
     pub seed: u64,
     pub captures: usize,
     pub calls: usize,
+    pub frames: usize,
 }
 
 enum Work<'a> {
     Example(&'a Program, &'a Example),
     Capture(&'a Program, usize),
     Batch(&'a Program, usize),
+    Input(&'a Program, usize),
 }
 
 impl Plan {
@@ -42,6 +48,9 @@ impl Plan {
         }
         if let Some(probe) = &self.probe {
             works.extend((0..batches(self.calls)).map(|number| Work::Batch(probe, number)));
+        }
+        if let Some(write) = &self.write {
+            works.extend((0..self.frames).map(|number| Work::Input(write, number)));
         }
         works
     }
@@ -90,78 +99,31 @@ impl Plan {
                 let sent = capture(&mut rng, *number);
                 let (verdict, listing) = RIGHT.listing(&sent);
                 let work = format!("replay capture {number}");
-                judge_output(program, work, sent, listing.as_bytes())?;
+                judge_output(program, work, sent, &Due::text(listing.as_bytes()))?;
                 tally.capture(verdict.number);
             }
             Work::Batch(program, number) => {
                 let mut rng = Rng::for_work(self.seed, BATCH_STREAM, *number);
                 let sent = batch(&mut rng, *number, self.calls);
                 let replies = RIGHT.replies(&sent);
+                for reply in &replies {
+                    tally.reply(reply, &sent[reply.request.clone()]);
+                }
                 judge_batch(program, *number, sent, &replies)?;
-                replies.iter().for_each(|reply| tally.reply(reply));
+            }
+            Work::Input(program, number) => {
+                let mut rng = Rng::for_work(self.seed, INPUT_STREAM, *number);
+                let sent = input(&mut rng, *number);
+                let written = RIGHT.written(&sent);
+                let due = Due {
+                    output: &written.output,
+                    errors: &written.errors,
+                    records: true,
+                };
+                judge_output(program, format!("write input {number}"), sent, &due)?;
+                tally.written(&written);
             }
         }
         Ok(())
-    }
-}
-
-/// The model must agree with the example before the program is asked.
-fn judge_example(program: &Program, example: &Example) -> Result<(), Box<Difference>> {
-    let (_, listing) = RIGHT.listing(&example.capture);
-    if let Some(gap) = part(&example.listing, listing.as_bytes()) {
-        return Err(Box::new(Difference {
-            work: format!("model example {}", example.name),
-            sent: example.capture.clone(),
-            request: None,
-            gap,
-        }));
-    }
-    let work = format!("replay example {}", example.name);
-    judge_output(program, work, example.capture.clone(), &example.listing)
-}
-
-fn judge_batch(
-    program: &Program,
-    number: usize,
-    sent: Vec<u8>,
-    replies: &[Reply],
-) -> Result<(), Box<Difference>> {
-    let mut expected = String::new();
-    for reply in replies {
-        expected.push_str(&reply.line);
-        expected.push('\n');
-    }
-    let work = format!("probe batch {number}");
-    judge_output(program, work, sent, expected.as_bytes()).map_err(|mut difference| {
-        let line = difference.gap.line;
-        difference.request = replies
-            .get(line)
-            .map(|reply| (line, difference.sent[reply.request.clone()].to_vec()));
-        difference
-    })
-}
-
-fn judge_output(
-    program: &Program,
-    work: String,
-    sent: Vec<u8>,
-    expected: &[u8],
-) -> Result<(), Box<Difference>> {
-    let gap = match program.run(&sent, expected.len()) {
-        Ok(run) => compare(expected, &run),
-        Err(error) => Some(Gap {
-            line: 0,
-            expected: "a run of the program".into(),
-            came: error.to_string(),
-        }),
-    };
-    match gap {
-        None => Ok(()),
-        Some(gap) => Err(Box::new(Difference {
-            work,
-            sent,
-            request: None,
-            gap,
-        })),
     }
 }

@@ -2,12 +2,13 @@
 
 use super::program::Program;
 use super::run::Plan;
-use crate::model::wrong::{Kind, Shows, KINDS};
+use crate::model::wrong::{Kind, KINDS};
 use std::path::{Path, PathBuf};
 
 /// Smaller than a true run, but beyond all the fixed inputs.
 const CAPTURES: usize = 160;
-const CALLS: usize = 2_700;
+const CALLS: usize = 3_000;
+const FRAMES: usize = 200;
 
 /// The fake stands beside the driver.
 fn fake() -> Result<PathBuf, String> {
@@ -21,14 +22,17 @@ fn fake() -> Result<PathBuf, String> {
     }
 }
 
-fn plan(seed: u64, replay: Option<Program>, probe: Option<Program>) -> Plan {
+/// The programs by the words that the fake knows.
+fn plan(seed: u64, program: impl Fn(&str) -> Option<Program>) -> Plan {
     Plan {
-        replay,
-        probe,
+        replay: program("replay"),
+        probe: program("probe"),
+        write: program("write"),
         examples: Vec::new(),
         seed,
         captures: CAPTURES,
         calls: CALLS,
+        frames: FRAMES,
     }
 }
 
@@ -43,9 +47,8 @@ pub fn self_test(seed: u64) -> Result<bool, String> {
 }
 
 fn right_passes(path: &Path, seed: u64) -> bool {
-    let part = |name| Some(Program::new(&[], path, &[name]));
     let again = format!("outside --self-test --seed {seed}");
-    let judged = plan(seed, part("replay"), part("probe"))
+    let judged = plan(seed, |name| Some(Program::new(&[], path, &[name])))
         .run()
         .map_err(|difference| difference.tell(seed, &again))
         .and_then(|tally| tally.covered(false));
@@ -56,24 +59,22 @@ fn right_passes(path: &Path, seed: u64) -> bool {
     judged.is_ok()
 }
 
-/// A mistake that both programs show must be caught in each alone.
+/// A mistake that several programs show must be caught in each alone.
 fn wrong_caught(path: &Path, seed: u64, kind: &Kind) -> bool {
-    let part = |name| Program::new(&[], path, &[name, "--wrong", kind.name]);
     let mut good = true;
     let mut told = Vec::new();
-    let mut judge = |name, plan: Plan| {
-        let word = match plan.run() {
+    for &shown in kind.shows.programs() {
+        let words = [shown, "--wrong", kind.name];
+        let plan = plan(seed, |name| {
+            (name == shown).then(|| Program::new(&[], path, &words))
+        });
+        told.push(match plan.run() {
             Err(difference) => format!("caught in {}", difference.work),
-            Ok(_) => format!("NOT CAUGHT in {name}"),
-        };
-        good &= !word.starts_with("NOT");
-        told.push(word);
-    };
-    if kind.shows != Shows::Probe {
-        judge("replay", plan(seed, Some(part("replay")), None));
-    }
-    if kind.shows != Shows::Replay {
-        judge("probe", plan(seed, None, Some(part("probe"))));
+            Ok(_) => {
+                good = false;
+                format!("NOT CAUGHT in {shown}")
+            }
+        });
     }
     println!("{}: {}", kind.name, told.join(", "));
     good

@@ -1,42 +1,20 @@
 //! What a run has seen, and whether it has seen enough.
 
-use crate::model::probe::{Outcome, Reply, LETTERS};
+use super::case_tally::CaseTally;
+use super::wanted::{outcomes, Who};
+use crate::model::probe::{Outcome, Reply, HEADER, LETTERS};
+use crate::model::written::Written;
 use std::collections::BTreeMap;
-
-/// Who gave an outcome. Words about the requests themselves are counted
-/// over all letters together.
-#[derive(Clone, Copy, PartialEq, Eq, PartialOrd, Ord)]
-pub enum Who {
-    Replay,
-    Letter(u8),
-    Requests,
-}
 
 #[derive(Default)]
 pub struct Tally {
     pub examples: usize,
     pub captures: usize,
+    inputs: usize,
     calls: BTreeMap<u8, usize>,
     seen: BTreeMap<(Who, Outcome), usize>,
+    cases: CaseTally,
 }
-
-const NUMBERS: &[(Who, &[u32])] = &[
-    (Who::Replay, &[0, 1, 3, 4]),
-    (Who::Letter(b'C'), &[0, 7, 8, 14]),
-    (Who::Letter(b'D'), &[0, 7, 8, 14]),
-    (Who::Letter(b'R'), &[0, 1, 2, 3, 4, 7, 8, 14]),
-    (Who::Letter(b'G'), &[0, 1, 2, 3, 4, 7, 8, 14]),
-    (Who::Letter(b'S'), &[0, 7, 8, 9, 14]),
-    (Who::Letter(b'T'), &[0, 5, 6, 7, 8]),
-    (Who::Letter(b'E'), &[0, 10, 11, 12, 13]),
-];
-
-const WORDS: &[Outcome] = &[
-    Outcome::Malformed,
-    Outcome::Unknown,
-    Outcome::TooLong,
-    Outcome::CutShort,
-];
 
 impl Tally {
     pub fn capture(&mut self, number: u32) {
@@ -44,9 +22,25 @@ impl Tally {
         self.add(Who::Replay, Outcome::Number(number), 1);
     }
 
-    pub fn reply(&mut self, reply: &Reply) {
+    /// An input of write_frame: its frames, and what ended it if not its end.
+    pub fn written(&mut self, written: &Written) {
+        self.inputs += 1;
+        for _ in usize::from(written.refused())..written.orders.len() {
+            self.add(Who::Write, Outcome::Number(0), 1);
+        }
+        if written.end != Outcome::Number(0) {
+            self.add(Who::Write, written.end, 1);
+        }
+        self.cases.written(written);
+    }
+
+    pub fn reply(&mut self, reply: &Reply, request: &[u8]) {
         if LETTERS.contains(&reply.letter) {
             *self.calls.entry(reply.letter).or_default() += 1;
+        }
+        if b"WK".contains(&reply.letter) {
+            let payload = request.get(HEADER..).unwrap_or_default();
+            self.cases.reply(reply, payload);
         }
         let who = match reply.outcome {
             Outcome::Number(_) => Who::Letter(reply.letter),
@@ -62,6 +56,8 @@ impl Tally {
     pub fn merge(&mut self, other: Tally) {
         self.examples += other.examples;
         self.captures += other.captures;
+        self.inputs += other.inputs;
+        self.cases.merge(other.cases);
         for (letter, times) in other.calls {
             *self.calls.entry(letter).or_default() += times;
         }
@@ -84,20 +80,18 @@ impl Tally {
 
     /// What a run must see and this one did not.
     fn missing(&self) -> Vec<String> {
-        let numbers = NUMBERS.iter().flat_map(|&(who, numbers)| {
-            numbers
-                .iter()
-                .map(move |&number| (who, Outcome::Number(number)))
-        });
-        let words = WORDS.iter().map(|&outcome| (Who::Requests, outcome));
-        numbers
-            .chain(words)
+        let cases = CaseTally::wanted().into_iter();
+        let unmet = cases.filter(|&case| self.cases.times(case) == 0);
+        outcomes()
+            .into_iter()
             .filter(|key| !self.seen.contains_key(key))
             .map(|(who, outcome)| format!("{} {}", name(who), said(outcome)))
+            .chain(unmet.map(|(who, case)| format!("{} {case}", name(who))))
             .collect()
     }
 
-    /// A line for the captures, for each letter, and for the requests.
+    /// A line for the captures, for the inputs of write_frame, for each
+    /// letter and for the requests; then the cases, of which there are many.
     pub fn lines(&self) -> Vec<String> {
         let mut lines = Vec::new();
         if self.examples > 0 {
@@ -105,11 +99,16 @@ impl Tally {
         }
         let captures = format!("captures {}", self.captures);
         lines.push(captures + &self.outcomes(Who::Replay));
+        let inputs = format!("write inputs {}", self.inputs);
+        lines.push(inputs + &self.outcomes(Who::Write));
         for (&letter, times) in &self.calls {
             let calls = format!("{} calls {times}", char::from(letter));
             lines.push(calls + &self.outcomes(Who::Letter(letter)));
         }
         lines.push(String::from("requests") + &self.outcomes(Who::Requests));
+        for (who, cases) in self.cases.told() {
+            lines.push(format!("{} cases: {cases}", name(who)));
+        }
         lines
     }
 
@@ -125,6 +124,7 @@ impl Tally {
 fn name(who: Who) -> String {
     match who {
         Who::Replay => "replay".into(),
+        Who::Write => "write".into(),
         Who::Letter(letter) => char::from(letter).into(),
         Who::Requests => "requests".into(),
     }
@@ -144,11 +144,7 @@ mod tests {
     #[test]
     fn an_empty_run_misses_all() {
         let mut tally = Tally::default();
-        let all = NUMBERS
-            .iter()
-            .map(|(_, numbers)| numbers.len())
-            .sum::<usize>()
-            + WORDS.len();
+        let all = outcomes().len() + CaseTally::wanted().len();
         assert_eq!(tally.missing().len(), all);
         tally.capture(3);
         assert_eq!(tally.missing().len(), all - 1);

@@ -1,6 +1,7 @@
 //! Batches of requests, each the whole input of one run of the probe.
 
 use super::edges::edges;
+use super::frame_edges::{frame_edges, long_buffer};
 use super::requests::{header, lending, random, too_much, unknown_letter, Request};
 use super::rng::Rng;
 use super::states;
@@ -22,7 +23,11 @@ pub fn batch(rng: &mut Rng, number: usize, calls: usize) -> Vec<u8> {
     if wanted == 0 {
         return Vec::new();
     }
-    let mut requests = if number == 0 { edges(rng) } else { Vec::new() };
+    let mut requests = match number {
+        0 => edges(rng),
+        1 => frame_edges(rng),
+        _ => Vec::new(),
+    };
     for place in 0..TURNS_IN_BATCH {
         requests.push(turn(rng, (number * TURNS_IN_BATCH + place) % TURNS));
     }
@@ -41,7 +46,7 @@ pub fn batch(rng: &mut Rng, number: usize, calls: usize) -> Vec<u8> {
 /// request that is too long must not be answered.
 fn tail(rng: &mut Rng, number: usize) -> Vec<u8> {
     let letter = rng.pick(LETTERS);
-    match number % 8 {
+    match number % 10 {
         1 => {
             let long = header(letter, too_much(rng));
             followed(rng, long)
@@ -61,6 +66,10 @@ fn tail(rng: &mut Rng, number: usize) -> Vec<u8> {
             cut_payload(rng, letter)
         }
         7 => header(letter, rng.from_to(1, 40)),
+        8 | 9 => {
+            let long = long_buffer(rng, if number % 10 == 8 { b'W' } else { b'K' });
+            followed(rng, long.to_bytes())
+        }
         _ => Vec::new(),
     }
 }
@@ -78,4 +87,18 @@ fn cut_payload(rng: &mut Rng, letter: u8) -> Vec<u8> {
     let kept = rng.from_to(1, length - 1);
     bytes.extend(vec![0; kept]);
     bytes
+}
+
+#[cfg(test)]
+mod tests {
+    use super::*;
+
+    /// What does not fit into its batch would be left out unseen.
+    #[test]
+    fn fixed_requests_fit() {
+        let mut rng = Rng::for_work(1, 1, 1);
+        for fixed in [edges(&mut rng), frame_edges(&mut rng)] {
+            assert!(fixed.len() + TURNS_IN_BATCH <= BATCH);
+        }
+    }
 }

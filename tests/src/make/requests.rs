@@ -1,7 +1,8 @@
 //! Random requests for the probe.
 
 use super::rng::Rng;
-use super::{captures, states, words};
+use super::{captures, cells, orders, states, words};
+use crate::model::frame_calls::WriteCall;
 use crate::model::probe::{LETTERS, LONGEST};
 
 pub struct Request {
@@ -36,7 +37,7 @@ pub fn lending(image: Vec<u8>, room: usize, rest: &[u8]) -> Vec<u8> {
 }
 
 /// Letters are drawn from here, so that the busy ones come more often.
-const DRAWN: &[u8] = b"CCCCCDDDDDRRRGGGSSTTTEEEE";
+const DRAWN: &[u8] = b"CCCCCDDDDDRRRGGGSSTTTEEEEWWWWKKK";
 
 pub fn random(rng: &mut Rng) -> Request {
     let letter = rng.pick(DRAWN);
@@ -51,6 +52,8 @@ pub fn random(rng: &mut Rng) -> Request {
             lending(states::image(rng), room, &[])
         }
         b'T' => taken(rng),
+        b'W' => written(rng),
+        b'K' => cells::random(rng).payload(),
         _ => words::block(rng).payload(),
     };
     Request::new(letter, payload)
@@ -77,11 +80,12 @@ fn replay(rng: &mut Rng) -> Vec<u8> {
     } else {
         states::image(rng)
     };
-    let room = room(rng, capture.len());
+    let room = around(rng, capture.len());
     lending(image, room, &capture)
 }
 
-fn room(rng: &mut Rng, length: usize) -> usize {
+/// A room for so many bytes, or a little less or more.
+pub fn around(rng: &mut Rng, length: usize) -> usize {
     match rng.below(12) {
         0 => length.saturating_sub(1),
         1 => length + 1,
@@ -107,9 +111,22 @@ fn taken(rng: &mut Rng) -> Vec<u8> {
     bytes
 }
 
+/// The order is once in a while cut, or has something behind it.
+fn written(rng: &mut Rng) -> Vec<u8> {
+    let order = orders::order(rng);
+    let room = around(rng, order.size()).min(LONGEST);
+    let mut payload = WriteCall { room, order }.payload();
+    match rng.below(30) {
+        0 => payload.truncate(rng.below(payload.len())),
+        1 => payload.push(rng.byte() & 1),
+        _ => (),
+    }
+    payload
+}
+
 /// A payload of another length than its letter wants, or no letter at all.
 fn misfit(rng: &mut Rng, letter: u8) -> Request {
-    let length = rng.pick(&[0, 1, 15, 17, 18, 25, 28, 29, 30, 31, 34, 532]);
+    let length = rng.pick(&[0, 1, 7, 11, 15, 17, 18, 25, 28, 29, 30, 31, 34, 532]);
     let letter = if rng.once_in(2) {
         letter
     } else {
@@ -119,7 +136,7 @@ fn misfit(rng: &mut Rng, letter: u8) -> Request {
 }
 
 pub fn unknown_letter(rng: &mut Rng) -> u8 {
-    let near = rng.pick(b"ABFQUZcdrgste\0\n ");
+    let near = rng.pick(b"ABFJLQUVXZcdrgstewk\0\n ");
     match rng.byte() {
         letter if LETTERS.contains(&letter) || rng.once_in(2) => near,
         letter => letter,

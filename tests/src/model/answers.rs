@@ -1,7 +1,8 @@
 //! The work of each letter of the probe, and the line it prints.
 
 use super::cycle::{Inputs, Routing, RECORD};
-use super::probe::{number, plain, Line, Outcome, LETTERS, MOST_WORDS, STATE_AND_LENGTH};
+use super::frame_calls::ReadCall;
+use super::probe::{number, plain, Line, Outcome, LENGTH, LETTERS, MOST_WORDS, STATE_AND_LENGTH};
 use super::state::{State, IMAGE};
 use super::wrong::Wrong;
 use super::Model;
@@ -14,17 +15,13 @@ impl Model {
         if !LETTERS.contains(&letter) {
             return plain(Outcome::Unknown);
         }
-        let lends = b"RGS".contains(&letter) && payload.len() >= STATE_AND_LENGTH;
-        let room = if lends {
-            number(&payload[IMAGE..STATE_AND_LENGTH]) as usize
-        } else {
-            0
-        };
+        let room = room(letter, payload);
         let tests = [
-            (Outcome::Malformed, !self.fits(letter, payload.len())),
+            (Outcome::Malformed, !self.fits(letter, payload)),
             (Outcome::TooLong, room > self.longest()),
         ];
-        let place = usize::from(self.has(Wrong::BufferFirst));
+        let of_order = letter == b'W' && self.has(Wrong::OrderBufferFirst);
+        let place = usize::from(self.has(Wrong::BufferFirst) || of_order);
         for (outcome, holds) in [tests[place], tests[1 - place]] {
             if holds {
                 return plain(outcome);
@@ -33,7 +30,8 @@ impl Model {
         self.by_gates(letter).work(letter, payload, room)
     }
 
-    fn fits(&self, letter: u8, length: usize) -> bool {
+    fn fits(&self, letter: u8, payload: &[u8]) -> bool {
+        let length = payload.len();
         match letter {
             b'C' | b'D' => {
                 let longer = self.has(Wrong::LongCycle) && length == IMAGE + RECORD + 1;
@@ -42,6 +40,8 @@ impl Model {
             b'R' | b'G' => length >= STATE_AND_LENGTH,
             b'S' => length == STATE_AND_LENGTH,
             b'E' => length >= 16 && length % 4 == 0 && (length - 16) / 4 <= MOST_WORDS,
+            b'W' => self.write_call(payload).is_some(),
+            b'K' => ReadCall::from_payload(payload).is_some(),
             _ => true,
         }
     }
@@ -62,14 +62,15 @@ impl Model {
             b'R' | b'G' => self.replayed(payload, &mut buffer),
             b'S' => {
                 let number = self.save(&State::from_image(payload), &mut buffer);
-                let line = format!("{number} {}", self.hex_or_dash(&buffer));
-                (Outcome::Number(number), line)
+                (Outcome::Number(number), self.lent(number, &buffer))
             }
             b'T' => {
                 let (number, state) = self.take(payload);
                 let line = format!("{number} {}", self.hex(&state.to_image()));
                 (Outcome::Number(number), line)
             }
+            b'W' => self.framed(payload, &mut buffer),
+            b'K' => self.read(payload, &mut buffer),
             _ => self.evaluated(payload),
         }
     }
@@ -128,6 +129,11 @@ impl Model {
         (Outcome::Number(verdict.number), line)
     }
 
+    /// A number, and all of the lent buffer.
+    pub fn lent(&self, number: u32, buffer: &[u8]) -> String {
+        format!("{number} {}", self.hex_or_dash(buffer))
+    }
+
     fn hex_or_dash(&self, bytes: &[u8]) -> String {
         if bytes.is_empty() {
             String::from("-")
@@ -135,6 +141,17 @@ impl Model {
             self.hex(bytes)
         }
     }
+}
+
+/// The length of the buffer that is asked for, 0 where there is none.
+fn room(letter: u8, payload: &[u8]) -> usize {
+    let place = match letter {
+        b'R' | b'G' | b'S' => IMAGE,
+        b'W' | b'K' => 0,
+        _ => return 0,
+    };
+    let length = payload.get(place..place + LENGTH);
+    length.map_or(0, |bytes| number(bytes) as usize)
 }
 
 fn report_text(report: Option<Routing>) -> String {

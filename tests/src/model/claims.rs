@@ -16,12 +16,18 @@ pub struct Run {
 }
 
 impl Run {
+    pub fn of(model: Model, capture: &[u8]) -> Run {
+        Run::if_taken(model, capture).expect("a good capture")
+    }
+
     /// The answers come from a whole replay, where a fault can also stand
     /// between two cycles.
-    pub fn of(model: Model, capture: &[u8]) -> Run {
+    pub fn if_taken(model: Model, capture: &[u8]) -> Option<Run> {
         let mut answers = vec![0; capture.len()];
         let (verdict, _) = model.replay(&State::reset(), capture, &mut answers);
-        assert_eq!(verdict, DONE);
+        if verdict != DONE {
+            return None;
+        }
         let inputs: Vec<Inputs> = capture.chunks(RECORD).map(Inputs::from_record).collect();
         let mut states = vec![State::reset()];
         let mut reports = Vec::new();
@@ -30,12 +36,12 @@ impl Run {
             states.push(cycle.next);
             reports.push(cycle.report);
         }
-        Run {
+        Some(Run {
             inputs,
             reports,
             states,
             answers,
-        }
+        })
     }
 
     pub fn cycles(&self) -> usize {
@@ -89,6 +95,12 @@ impl Headers {
         }
         askers
     }
+
+    /// Whether an output may have this winner, or none.
+    pub fn may_win(&self, output: usize, winner: Option<usize>) -> bool {
+        let left = self.foremost(output);
+        winner.map_or(left.is_empty(), |i| left.contains(&i))
+    }
 }
 
 /// The error says what does not hold, and where.
@@ -100,6 +112,23 @@ pub fn claim(holds: bool, words: &str, t: usize, port: usize) -> Held {
     } else {
         Err(format!("not so in cycle {t} at port {port}: {words}"))
     }
+}
+
+/// The claims that do not hold in all of the tries, and where first.
+pub fn failures<C: Copy>(
+    claims: &[(&'static str, C)],
+    tries: usize,
+    tried: impl Fn(C, usize) -> Held,
+) -> Vec<(&'static str, String)> {
+    let mut found = Vec::new();
+    for &(name, claim) in claims {
+        let first = (0..tries).find_map(|number| {
+            let held = tried(claim, number);
+            held.err().map(|why| format!("try {number}: {why}"))
+        });
+        found.extend(first.map(|why| (name, why)));
+    }
+    found
 }
 
 /// How often each case was seen: a claim says nothing of cases that never

@@ -1,8 +1,9 @@
 //! Shows that the claims can fail: each fault in the cycle rules breaks some,
-//! and each claim is broken by some.
+//! faults in writing and reading frames do, and each claim is broken by some.
 
+use super::claims::failures;
 use super::wrong::{Wrong, KINDS};
-use super::{demand_claims, demand_runs, frame_claims, Model};
+use super::{demand_claims, demand_runs, frame_claims, written_claims, Model};
 
 /// Enough for every fault to come up.
 const TRIES: usize = 60;
@@ -11,8 +12,11 @@ const TRIES: usize = 60;
 /// nothing of acknowledgements. Frames say nothing of the turn, of how many
 /// are turned away, or of holders and report in a routing that meets a start.
 const BROKEN: &[(Wrong, &[&str])] = &[
-    (Wrong::Head2E, &["frame heads", "showing"]),
-    (Wrong::EarlyHead, &["frame heads", "showing"]),
+    (Wrong::Head2E, &["frame heads", "showing", "written bodies"]),
+    (
+        Wrong::EarlyHead,
+        &["frame heads", "showing", "written bodies"],
+    ),
     (Wrong::AckLate, &["frame acks"]),
     (Wrong::StaleAck, &["frame acks"]),
     (Wrong::TurnAtHolder, &["winner", "four routings"]),
@@ -39,31 +43,70 @@ const BROKEN: &[(Wrong, &[&str])] = &[
     (Wrong::GatesTurn, &[]),
 ];
 
+/// The same for frames. All other faults in writing and reading them break
+/// none: the claims speak of what is written, and not of what is refused, of
+/// what a buffer holds beside, or of frames that no writer writes.
+const WRITTEN: &[(Wrong, &[&str])] = &[
+    (Wrong::HeadersEarly, &["written frames", "written bodies"]),
+    (Wrong::AcksNotAtStart, &["written acks"]),
+    (Wrong::AcksReversed, &["written acks"]),
+    // Replay refuses such records, so that nothing at all can be claimed.
+    (Wrong::AckBitsKept, &["written frames", "written acks"]),
+    (Wrong::SpareDropped, &["written cells"]),
+    (Wrong::BodyStops, &["written cells", "written bodies"]),
+    (Wrong::NotCleared, &["written cells", "written bodies"]),
+    (Wrong::EndingZero, &["written cells", "written bodies"]),
+    (Wrong::LastLate, &["written frames", "written bodies"]),
+    (Wrong::ReadFlags, &["written cells"]),
+    (Wrong::ReadKeeps, &["written cells"]),
+    (Wrong::ReadStops, &["written cells"]),
+    (Wrong::ReadTight, &["written cells"]),
+];
+
 /// The names of the claims that a fault breaks.
 fn broken(wrong: Wrong) -> Vec<&'static str> {
     let model = Model::with(Some(wrong));
-    let mut names = Vec::new();
-    for (name, claim) in frame_claims::CLAIMS {
-        if (0..TRIES).any(|number| frame_claims::tried(model, claim, number).is_err()) {
-            names.push(name);
-        }
-    }
-    for (name, claim) in demand_claims::CLAIMS {
-        if (0..TRIES).any(|number| demand_runs::tried(model, claim, number).is_err()) {
-            names.push(name);
-        }
-    }
-    names
+    let failed = [
+        failures(&frame_claims::CLAIMS, TRIES, |claim, number| {
+            frame_claims::tried(model, claim, number)
+        }),
+        failures(&demand_claims::CLAIMS, TRIES, |claim, number| {
+            demand_runs::tried(model, claim, number)
+        }),
+        failures(&written_claims::CLAIMS, TRIES, |claim, number| {
+            written_claims::tried(model, claim, number)
+        }),
+    ];
+    failed.concat().iter().map(|(name, _)| *name).collect()
+}
+
+fn breaks(wrong: Wrong, claims: &[&str]) {
+    let broken = broken(wrong);
+    let caught = claims.iter().all(|name| broken.contains(name));
+    assert!(caught, "{wrong:?} breaks only {broken:?}");
+    assert_eq!(claims.is_empty(), broken.is_empty(), "{wrong:?}");
 }
 
 #[test]
 fn faults_break_claims() {
     for (wrong, claims) in BROKEN {
-        let broken = broken(*wrong);
-        let caught = claims.iter().all(|name| broken.contains(name));
-        assert!(caught, "{wrong:?} breaks only {broken:?}");
-        assert_eq!(claims.is_empty(), broken.is_empty(), "{wrong:?}");
+        breaks(*wrong, claims);
     }
+}
+
+#[test]
+fn faults_of_frames_break_claims() {
+    let kinds = KINDS.iter().map(|kind| kind.wrong);
+    let frames = kinds
+        .skip_while(|&wrong| wrong != Wrong::HeadersEarly)
+        .take_while(|&wrong| wrong != Wrong::LowFirst);
+    let mut listed = 0;
+    for wrong in frames {
+        let row = WRITTEN.iter().find(|row| row.0 == wrong);
+        listed += usize::from(row.is_some());
+        breaks(wrong, row.map_or(&[], |row| row.1));
+    }
+    assert_eq!(listed, WRITTEN.len());
 }
 
 /// The kinds list the faults of the cycle rules first.
@@ -80,5 +123,8 @@ fn no_claim_is_left_out() {
     let demand = demand_claims::CLAIMS.map(|(name, _)| name);
     for name in frame.iter().chain(&demand) {
         assert!(BROKEN.iter().any(|row| row.1.contains(name)), "{name}");
+    }
+    for (name, _) in written_claims::CLAIMS {
+        assert!(WRITTEN.iter().any(|row| row.1.contains(&name)), "{name}");
     }
 }

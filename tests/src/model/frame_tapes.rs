@@ -8,6 +8,7 @@ use std::array::from_fn;
 
 /// A frame start, the header cycle and the next start. An inactive frame is
 /// one whose header never comes.
+#[derive(PartialEq, Eq)]
 pub struct Frame {
     pub ts: usize,
     pub th: Option<usize>,

@@ -1,4 +1,4 @@
-//! The model: document 01 in ordinary code.
+//! The model: document 01, and the rules of written frames, in ordinary code.
 
 mod answers;
 #[cfg(test)]
@@ -12,16 +12,25 @@ mod demand_claims;
 mod demand_runs;
 #[cfg(test)]
 mod document;
+pub mod frame_calls;
 #[cfg(test)]
 mod frame_claims;
 #[cfg(test)]
 mod frame_tapes;
 pub mod gates;
 pub mod listing;
+pub mod orders;
 pub mod probe;
+mod reader;
 pub mod replay;
 pub mod saved;
 pub mod state;
+pub mod writer;
+pub mod written;
+#[cfg(test)]
+mod written_claims;
+#[cfg(test)]
+mod written_figures;
 pub mod wrong;
 
 use wrong::Wrong;

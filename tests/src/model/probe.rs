@@ -5,13 +5,15 @@ use super::wrong::Wrong;
 use super::Model;
 use std::ops::Range;
 
-pub const LETTERS: &[u8] = b"CDRGSTE";
+pub const LETTERS: &[u8] = b"CDRGSTEWK";
 pub const LONGEST: usize = 65_536;
 pub const MOST_WORDS: usize = 128;
 /// A letter and a payload length.
 pub const HEADER: usize = 5;
+/// A buffer length.
+pub const LENGTH: usize = 4;
 /// A state image and a buffer length.
-pub const STATE_AND_LENGTH: usize = IMAGE + 4;
+pub const STATE_AND_LENGTH: usize = IMAGE + LENGTH;
 
 /// How a request ended; the number is a refusal number, or 0 for done.
 #[derive(Clone, Copy, Debug, PartialEq, Eq, PartialOrd, Ord)]

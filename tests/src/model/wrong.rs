@@ -1,11 +1,31 @@
 //! The ways in which a fake can be wrong, one at a time.
 
-/// Which of the two programs shows the mistake.
+/// Where the mistake shows: in one program, in `Both` of replay and probe, in
+/// the two that take `Orders`, or in `All`.
 #[derive(Clone, Copy, Debug, PartialEq, Eq)]
 pub enum Shows {
+    All,
     Both,
+    Orders,
     Replay,
     Probe,
+    Write,
+}
+
+/// The words by which the fake plays a program.
+pub const PROGRAMS: [&str; 3] = ["replay", "probe", "write"];
+
+impl Shows {
+    pub fn programs(self) -> &'static [&'static str] {
+        match self {
+            Shows::All => &PROGRAMS,
+            Shows::Both => &PROGRAMS[..2],
+            Shows::Orders => &PROGRAMS[1..],
+            Shows::Replay => &PROGRAMS[..1],
+            Shows::Probe => &PROGRAMS[1..2],
+            Shows::Write => &PROGRAMS[2..],
+        }
+    }
 }
 
 pub struct Kind {
@@ -71,14 +91,14 @@ kinds! {
     HexCycle "cycle-in-hex" Replay;
     NoIndex "index-not-printed" Replay;
     LowerHex "lower-case-hex" Both;
-    NoLastNewline "no-last-newline" Both;
-    CarriageReturn "carriage-returns" Both;
-    TrailingBlank "trailing-blank" Both;
-    Silent "nothing-printed" Both;
-    ExtraLine "line-too-many" Both;
-    Chatter "chatter-on-stderr" Both;
-    BadStatus "exit-status-3" Both;
-    Endless "endless-output" Both;
+    NoLastNewline "no-last-newline" All;
+    CarriageReturn "carriage-returns" All;
+    TrailingBlank "trailing-blank" All;
+    Silent "nothing-printed" All;
+    ExtraLine "line-too-many" All;
+    Chatter "chatter-on-stderr" All;
+    BadStatus "exit-status-3" All;
+    Endless "endless-output" All;
 
     // States handed in, saved and taken up.
     StateByNumber "state-order-7-8-14" Probe;
@@ -111,10 +131,67 @@ kinds! {
     IgnoredBits "cycle-refuses-bits" Probe;
     LongCycle "cycle-payload-31" Probe;
     GoesOn "too-long-goes-on" Probe;
-    CutUnsaid "cut-short-unsaid" Probe;
+    CutUnsaid "cut-short-unsaid" Orders;
     UnknownBeforeCut "unknown-before-cut" Probe;
     BufferFirst "buffer-before-malformed" Probe;
     LowLongest "longest-65535" Probe;
+
+    // Frames that are written.
+    HeadersEarly "headers-one-record-early" Orders;
+    AcksNotAtStart "acks-not-at-start" Orders;
+    AcksReversed "acks-reversed" Orders;
+    AckBitsKept "ack-bits-7-to-4-kept" Orders;
+    SpareDropped "spare-bits-dropped" Orders;
+    BodyStops "body-stops-at-zero" Orders;
+    NotCleared "frame-not-cleared" Orders;
+    FrameBegun "refused-frame-begun" Orders;
+    FrameBeyond "frame-record-beyond" Probe;
+    FrameShort "frame-into-one-byte-less" Probe;
+    GapZero "gap-0-allowed" Orders;
+    GapLow "gap-limit-15" Orders;
+    GapHigh "gap-limit-17" Orders;
+    LengthLax "length-gap-1-allowed" Orders;
+    LengthStrict "length-gap-2-refused" Orders;
+    LengthLow "length-limit-4095" Orders;
+    LengthHigh "length-limit-4097" Orders;
+    BodyLow "body-limit-63" Orders;
+    BodyHigh "body-limit-65" Orders;
+    EndingZero "ending-zero-allowed" Orders;
+    LastLate "last-byte-at-te-1-allowed" Orders;
+    LastEarly "last-byte-at-te-2-refused" Orders;
+    CellByCell "refusals-cell-by-cell" Orders;
+    TwentyOneFirst "refusal-21-before-20" Orders;
+    TwentyTwoFirst "refusal-22-before-21" Orders;
+    TwentyThreeFirst "refusal-23-before-22" Orders;
+    TwentyFourFirst "refusal-24-first" Probe;
+
+    // Cells that are read.
+    ReadOwn "read-own-headers-only" Probe;
+    ReadFlags "read-active-in-byte-0" Probe;
+    ReadKeeps "read-keeps-zeros" Probe;
+    ReadStops "read-stops-at-zero" Probe;
+    ReadAlone "read-header-alone-unseen" Probe;
+    ReadHalf "read-part-of-record" Probe;
+    ReadModulo "read-input-modulo-4" Probe;
+    ReadPart "read-part-written" Probe;
+    ReadTight "read-exact-fit-unseen" Probe;
+    ReadUncounted "read-unfit-counts-0" Probe;
+    ReadBeyond "read-byte-beyond" Probe;
+
+    // Orders, and the program that takes them one after the other.
+    LowFirst "order-length-low-first" Orders;
+    HeaderOfNone "order-header-without-body" Orders;
+    LeftOver "order-left-over-unseen" Probe;
+    OrderBufferFirst "buffer-before-order" Probe;
+    FramesFromOne "frames-from-1" Write;
+    FrameHex "frame-number-in-hex" Write;
+    FrameByte "frame-number-8-bits" Write;
+    PastRefused "goes-on-when-refused" Write;
+    FramesLost "frames-before-lost" Write;
+    CutRefused "cut-order-refused" Write;
+    EndCut "end-said-cut-short" Write;
+    SaidOnOutput "refusal-on-output" Write;
+    RefusedStatus "refused-status-1" Write;
 }
 
 pub fn by_name(name: &str) -> Option<Wrong> {
