@@ -4,7 +4,7 @@ use mathlib.Core.List.{List}
 use Prim.Native.Nat.{ℕ, _-_, _≤_}
 use lib.ListN.{length, take, drop}
 use Rattle.text.specs.Page.{Page, Wrote}
-use Rattle.text.proofs.Lists.{take-replicate, part-all}
+use Rattle.text.proofs.Lists.{part-all}
 use Rattle.text.proofs.Pages.{spelt}
 use Rattle.routing.proofs.Equal.{two}
 use Rattle.states.specs.declared.state.State.{State}
@@ -12,7 +12,7 @@ use Rattle.fabric.specs.Cycle.{Machine, machine}
 use Rattle.capture.specs.declared.run.Replayed.{Replayed}
 use Rattle.capture.specs.Replay.{replayOf, replayWrites}
 use Rattle.image.specs.Image.{stateFrom, rowsFrom}
-use Rattle.call_replay.specs.Replay.{roomIn, marked, replayedText, replayText}
+use Rattle.call_replay.specs.Replay.{replayedText, replayText}
 
 -- the capture is lent as the part of the payload behind the state and the length
 pub replayed-by : (payload buffer : List ℕ) {after : List ℕ} {s : State} {rows : List (List ℕ)} {t : Replayed} {before next : Page} → s ≡ stateFrom payload → rows ≡ rowsFrom payload
@@ -23,7 +23,3 @@ replayed-by payload buffer es er e w =
     let c = part-all 29 payload in
     spelt w
     (two replayedText (e .0 ∙ two (λ (x : Machine) (l : List ℕ). replayOf x l (length buffer)) m c) (e .1 ∙ two (λ (x : Machine) (l : List ℕ). replayWrites x l buffer) m c))
-
--- as many marks as the payload asks for
-pub marks-cut : (payload : List ℕ) {space : List ℕ} {room : ℕ} → space ≡ marked 65536 → (room ≡ roomIn payload) × (room ≤ 65536) → take room space ≡ marked (roomIn payload)
-marks-cut payload {room = room} e r = ap (take room) e ∙ take-replicate 165 room 65536 (r .1) ∙ ap marked (r .0)

@@ -2,22 +2,15 @@
 -- throughout before the call.
 use mathlib.Core.Bool.{cond}
 use mathlib.Core.List.{List, [], _∷_, _++_}
-use Prim.Native.Nat.{ℕ, min}
+use Prim.Native.Nat.{ℕ}
 use lib.Dec.{ltb}
-use lib.ListN.{length, drop, replicate}
+use lib.ListN.{length, drop}
 use Rattle.text.specs.Ascii.{ascii}
 use Rattle.fabric.specs.Cycle.{machine}
 use Rattle.capture.specs.declared.run.Replayed.{Replayed}
 use Rattle.capture.specs.Replay.{replayOf, replayWrites}
 use Rattle.image.specs.Image.{machineFrom}
-use Rattle.parts.specs.Parts.{wordAt, numberText, stateText, bytesText, malformed}
-
--- the buffer's length; more than 65,536 is answered by `too long` and comes not here
-abbrev pub roomIn : List ℕ → ℕ
-roomIn payload = min (wordAt payload 25) 65536
-
-abbrev pub marked : ℕ → List ℕ
-marked n = replicate n 165
+use Rattle.parts.specs.Parts.{marked, roomAt, numberText, stateText, bytesText, malformed}
 
 abbrev pub replayedText : Replayed → List ℕ → List ℕ
 replayedText t buffer =
@@ -29,4 +22,4 @@ replayText payload buffer =
     replayedText (replayOf (machineFrom payload) (drop 29 payload) (length buffer)) (replayWrites (machineFrom payload) (drop 29 payload) buffer)
 
 unfoldable pub replayLine : List ℕ → List ℕ
-replayLine payload = cond (ltb (length payload) 29) malformed (replayText payload (marked (roomIn payload)))
+replayLine payload = cond (ltb (length payload) 29) malformed (replayText payload (marked (roomAt payload 25)))

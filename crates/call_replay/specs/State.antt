@@ -9,15 +9,14 @@ use Rattle.fabric.specs.Cycle.{machine}
 use Rattle.saved.specs.declared.taking_up.TakenUp.{TakenUp}
 use Rattle.saved.specs.Saved.{saveRefusal, saveWrites, takeUpOf}
 use Rattle.image.specs.Image.{stateFrom, machineFrom}
-use Rattle.parts.specs.Parts.{numberText, stateText, bytesText, malformed}
-use Rattle.call_replay.specs.Replay.{roomIn, marked}
+use Rattle.parts.specs.Parts.{marked, roomAt, numberText, stateText, bytesText, malformed}
 
 abbrev pub saveText : List ℕ → List ℕ → List ℕ
 saveText payload buffer =
     numberText (saveRefusal (stateFrom payload) (length buffer)) ++ bytesText (saveWrites (machineFrom payload) buffer) ++ ascii "\n"
 
 unfoldable pub saveLine : List ℕ → List ℕ
-saveLine payload = cond (eqb (length payload) 29) (saveText payload (marked (roomIn payload))) malformed
+saveLine payload = cond (eqb (length payload) 29) (saveText payload (marked (roomAt payload 25))) malformed
 
 abbrev pub takenUpText : TakenUp → List ℕ
 takenUpText t = numberText (t .number) ++ stateText (machine (t .state) (t .first ∷ t .second ∷ t .switched ∷ t .heads ∷ [])) ++ ascii "\n"

@@ -1,9 +1,8 @@
 // R and G: the replay, by the rules and by the gates. The answer buffer holds A5 throughout before the call.
-ghost use mathlib.Core.Path.{_≡_};
 ghost use Prim.Native.Nat.{_≤_};
 ghost use lib.ListN.{length};
 ghost use Rattle.text.specs.Page.{page, Wrote};
-ghost use Rattle.call_replay.specs.Replay.{roomIn, marked, replayedText, replayText, replayLine};
+ghost use Rattle.call_replay.specs.Replay.{replayedText, replayText, replayLine};
 use capture::Replayed;
 
 fn put_replayed(out: &mut [u8], t: Replayed, buffer: &[u8]) -> usize
@@ -41,20 +40,6 @@ fn put_gate_replay_into(out: &mut [u8], payload: &[u8], buffer: &mut [u8]) -> us
     put_replayed(out, t, buffer)
 }
 
-pub(crate) fn marks() -> [u8; 65536]
-    ensures { λ r. ⌜ r ≡ marked 65536 ⌝ }
-{
-    [165; 65536]
-}
-
-// The buffer's length stands behind the 25 bytes of the state. More than 65,536 is answered before it comes here.
-pub(crate) fn room_in(payload: &[u8]) -> usize
-    ensures { λ r. ⌜ (r ≡ roomIn (now (payload .entry))) × (r ≤ 65536) ⌝ }
-{
-    let asked = parts::word_at(payload, 25) as usize;
-    text::shorter(asked, 65536)
-}
-
 // The two engines promise the same, so that one definition serves both letters.
 pub fn put_replay(out: &mut [u8], payload: &[u8], by_gates: bool) -> usize
     ensures { λ r. ⌜ Wrote (page (now (out .entry)) 0) (replayLine (now (payload .entry))) (page (now (out .exit)) r) ⌝ }
@@ -62,8 +47,8 @@ pub fn put_replay(out: &mut [u8], payload: &[u8], by_gates: bool) -> usize
     if payload.len() < 29 {
         return text::put_text(out, 0, b"malformed\n");
     }
-    let room = room_in(payload);
-    let mut space = marks();
+    let room = parts::room_at(payload, 25);
+    let mut space = parts::marks();
     if by_gates {
         return put_gate_replay_into(out, payload, &mut space[..room]);
     }

@@ -1,7 +1,6 @@
 // S and T: saving and taking up.
 ghost use Rattle.text.specs.Page.{page, Wrote};
 ghost use Rattle.call_replay.specs.State.{saveText, saveLine, takenUpText, takeUpLine};
-use super::replay;
 use saved::TakenUp;
 
 fn put_save_into(out: &mut [u8], payload: &[u8], buffer: &mut [u8]) -> usize
@@ -23,8 +22,8 @@ pub fn put_save(out: &mut [u8], payload: &[u8]) -> usize
     if payload.len() != 29 {
         return text::put_text(out, 0, b"malformed\n");
     }
-    let room = replay::room_in(payload);
-    let mut space = replay::marks();
+    let room = parts::room_at(payload, 25);
+    let mut space = parts::marks();
     put_save_into(out, payload, &mut space[..room])
 }
 

@@ -3,7 +3,9 @@
 mod parts;
 
 pub use parts::long_at;
+pub use parts::marks;
 pub use parts::put_bytes;
 pub use parts::put_number;
 pub use parts::put_state;
+pub use parts::room_at;
 pub use parts::word_at;

@@ -1,10 +1,10 @@
 // What the lines about a state are made of, and numbers of several bytes.
 ghost use mathlib.Core.List.{[], _∷_};
 ghost use mathlib.Core.Path.{_≡_};
-ghost use Prim.Native.Nat.{_<_};
+ghost use Prim.Native.Nat.{_<_, _≤_};
 ghost use Rattle.text.specs.Page.{page, Wrote};
 ghost use Rattle.fabric.specs.Cycle.{machine};
-ghost use Rattle.parts.specs.Parts.{wordAt, longAt, bytesText, stateText, numberText};
+ghost use Rattle.parts.specs.Parts.{wordAt, longAt, marked, roomAt, bytesText, stateText, numberText};
 use states::State;
 
 fn wide(b: u8) -> u64
@@ -30,6 +30,21 @@ pub fn long_at(bytes: &[u8], k: u8) -> u64
 {
     let at = k as u16;
     4294967296 * word_at(bytes, at) + word_at(bytes, at + 4)
+}
+
+// The longest buffer that a call is lent, as it is before the call.
+pub fn marks() -> [u8; 65536]
+    ensures { λ r. ⌜ r ≡ marked 65536 ⌝ }
+{
+    [165; 65536]
+}
+
+// How long a buffer the four bytes from byte k on ask for.
+pub fn room_at(bytes: &[u8], k: u16) -> usize
+    ensures { λ r. ⌜ (r ≡ roomAt (now (bytes .entry)) k) × (r ≤ 65536) ⌝ }
+{
+    let asked = word_at(bytes, k) as usize;
+    text::shorter(asked, 65536)
 }
 
 // A number and a blank.

@@ -10,7 +10,10 @@ pub(crate) fn too_long(letter: u8, payload: &[u8]) -> bool
     let n = payload.len();
     let replays = ((letter == b'R') | (letter == b'G')) & (29 <= n);
     let saves = (letter == b'S') & (n == 29);
-    (replays | saves) & (65536 < parts::word_at(payload, 25))
+    let writes = (letter == b'W') & call_frames::asks_frame(payload);
+    let reads = (letter == b'K') & (8 <= n);
+    ((replays | saves) & (65536 < parts::word_at(payload, 25)))
+        | ((writes | reads) & (65536 < parts::word_at(payload, 0)))
 }
 
 pub(crate) fn put_line(out: &mut [u8], letter: u8, payload: &[u8]) -> usize
@@ -24,6 +27,8 @@ pub(crate) fn put_line(out: &mut [u8], letter: u8, payload: &[u8]) -> usize
         b'S' => call_replay::put_save(out, payload),
         b'T' => call_replay::put_take_up(out, payload),
         b'E' => call_gates::put_evaluate(out, payload),
+        b'W' => call_frames::put_write(out, payload),
+        b'K' => call_frames::put_read(out, payload),
         _ => text::put_text(out, 0, b"unknown\n"),
     }
 }

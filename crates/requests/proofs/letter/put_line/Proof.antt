@@ -40,10 +40,18 @@ unfolding lineOf
 returns-7 c = spelt (c .before .before .put-evaluate .ensures) (ap (at (c .before .before .before .before .before .before .before .args .payload .now)) (sym (c .before .before .before .before .match .keys7)))
 
 returns-8 : tie.Need-returns-8
-returns-8 c =
+unfolding lineOf
+returns-8 c = spelt (c .before .before .put-write .ensures) (ap (at (c .before .before .before .before .before .before .before .args .payload .now)) (sym (c .before .before .before .before .match .keys8)))
+
+returns-9 : tie.Need-returns-9
+unfolding lineOf
+returns-9 c = spelt (c .before .before .put-read .ensures) (ap (at (c .before .before .before .before .before .before .before .args .payload .now)) (sym (c .before .before .before .before .match .keys9)))
+
+returns-10 : tie.Need-returns-10
+returns-10 c =
     let none = c .before .before .before .before .before .match .rest in
-    spelt (c .before .before .put-text .ensures) (no-such-letter (c .before .before .before .before .before .before .before .before .args .letter) (c .before .before .before .before .before .before .before .before .args .payload .now) (none .0 .0 .0 .0 .0 .0 .1) (none .0 .0 .0 .0 .0 .1) (none .0 .0 .0 .0 .1) (none .0 .0 .0 .1) (none .0 .0 .1) (none .0 .1) (none .1))
+    spelt (c .before .before .put-text .ensures) (no-such-letter (c .before .before .before .before .before .before .before .before .args .letter) (c .before .before .before .before .before .before .before .before .args .payload .now) (none .0 .0 .0 .0 .0 .0 .0 .0 .1) (none .0 .0 .0 .0 .0 .0 .0 .1) (none .0 .0 .0 .0 .0 .0 .1) (none .0 .0 .0 .0 .0 .1) (none .0 .0 .0 .0 .1) (none .0 .0 .0 .1) (none .0 .0 .1) (none .0 .1) (none .1))
 
 pub put-line-spec : {M : Type 1} → statement M
-put-line-spec = tie.close (tie.spec (λ c κs. search needs) (λ c κs. search needs) (λ c κs. search needs) (λ c κs. search needs) (λ c κs. search needs) (λ c κs. search needs) (λ c κs. search needs) (λ c. search needs) (λ c κs. search needs)
-    (λ c. search needs) returns (λ c. search needs) returns-2 (λ c. search needs) returns-3 (λ c. search needs) returns-4 (λ c. search needs) returns-5 (λ c. search needs) returns-6 (λ c. search needs) returns-7 (λ c. search needs) returns-8)
+put-line-spec = tie.close (tie.spec (λ c κs. search needs) (λ c κs. search needs) (λ c κs. search needs) (λ c κs. search needs) (λ c κs. search needs) (λ c κs. search needs) (λ c κs. search needs) (λ c κs. search needs) (λ c κs. search needs) (λ c. search needs) (λ c κs. search needs)
+    (λ c. search needs) returns (λ c. search needs) returns-2 (λ c. search needs) returns-3 (λ c. search needs) returns-4 (λ c. search needs) returns-5 (λ c. search needs) returns-6 (λ c. search needs) returns-7 (λ c. search needs) returns-8 (λ c. search needs) returns-9 (λ c. search needs) returns-10)
