@@ -10,7 +10,7 @@ use Rattle.text.proofs.Lists.{part-all}
 use Rattle.routing.proofs.Equal.{two}
 use Rattle.routing.proofs.Fours.{and-left}
 use Rattle.parts.specs.Parts.{wordAt}
-use Rattle.frames.specs.Refusal.{writeRefusal}
+use Rattle.plans.specs.Refusal.{writeRefusal}
 use Rattle.frames.specs.Writing.{frameWrites}
 use Rattle.frames.specs.Reading.{cellIn, cellWrites}
 use Rattle.orders.specs.Order.{orderSize, planOf}

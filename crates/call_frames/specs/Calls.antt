@@ -7,7 +7,7 @@ use lib.Dec.{eqb, leb, ltb}
 use lib.ListN.{length, drop}
 use Rattle.text.specs.Ascii.{ascii}
 use Rattle.parts.specs.Parts.{wordAt, marked, roomAt, numberText, bytesText, malformed}
-use Rattle.frames.specs.Refusal.{writeRefusal}
+use Rattle.plans.specs.Refusal.{writeRefusal}
 use Rattle.frames.specs.Writing.{frameWrites}
 use Rattle.frames.specs.Reading.{cellIn, cellWrites}
 use Rattle.orders.specs.Order.{orderSize, planOf}

@@ -11,11 +11,11 @@ use Rattle.fabric.specs.Run.{resetMachine, runOf}
 use Rattle.capture.specs.Capture.{inputsIn}
 use Rattle.runs.specs.Run.{Run, runFrom, FrameStartAt}
 use Rattle.promises.proofs.Recording.{record-read}
-use Rattle.frames.specs.Plan.{Plan, te, inputsOf}
+use Rattle.plans.specs.Plan.{Plan, te, inputsOf}
 use Rattle.frames.specs.Writing.{frameRecords}
-use Rattle.frames.proofs.Refusals.{taken}
+use Rattle.plans.proofs.Refusals.{taken}
 use Rattle.frames.proofs.Writes.{records-length}
-use Rattle.frames.proofs.Placed.{frame-here}
+use Rattle.delivery.proofs.Placed.{frame-here}
 use Rattle.delivery.specs.Written.{Writable, WrittenAt, Follows, InPlace, RecordsBringFrames, captureOf, frameAt, startOf, CapturesOfFrames}
 use Rattle.delivery.proofs.Writing.{start-at}
 

@@ -16,11 +16,11 @@ use Rattle.runs.specs.Frame.{ActiveFrame, ActiveShows}
 use Rattle.runs.proofs.Frames.{active-frames}
 use Rattle.runs.proofs.Winning.{winning}
 use Rattle.frames.specs.Listed.{listed, trimmed}
-use Rattle.frames.specs.Plan.{Plan, cellOf, isCell, headerIn, bodyIn, th, te, sends}
+use Rattle.plans.specs.Plan.{Plan, cellOf, isCell, headerIn, bodyIn, th, te, sends}
 use Rattle.frames.proofs.Lists.{listed-length, listed-as, trimmed-back, trimmed-less, only-zeros}
-use Rattle.frames.proofs.Refusals.{Taken, taken}
+use Rattle.plans.proofs.Refusals.{Taken, taken}
 use Rattle.frames.proofs.Writes.{sending}
-use Rattle.frames.proofs.Takings.{Good, good, no-bytes}
+use Rattle.delivery.proofs.Takings.{Good, good, no-bytes}
 use Rattle.delivery.specs.Written.{hasCell, InPlace}
 use Rattle.delivery.specs.Delivered.{frameText, SendsText, WholeTexts, Delivers, FramesDeliver}
 use Rattle.delivery.proofs.Writing.{row-at, written-frames}

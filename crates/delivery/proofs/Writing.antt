@@ -15,9 +15,9 @@ use Rattle.fabric.specs.declared.cycle.Inputs.{Inputs}
 use Rattle.runs.specs.Run.{Run, FromReset, NoneActiveAt, FrameStartAt, NoFrameStartAt}
 use Rattle.runs.specs.Frame.{Frame, NoneActiveBefore, NoneActiveFrom, ActiveFrame, InactiveFrame}
 use Rattle.runs.proofs.Stretches.{zeros-before-reset}
-use Rattle.frames.specs.Plan.{Plan, cellOf, isCell, th, te, inputsOf}
-use Rattle.frames.proofs.Refusals.{Taken, taken}
-use Rattle.frames.proofs.Takings.{row, good, quiet-before, silent, loud, quiet-end}
+use Rattle.plans.specs.Plan.{Plan, cellOf, isCell, th, te, inputsOf}
+use Rattle.plans.proofs.Refusals.{Taken, taken}
+use Rattle.delivery.proofs.Takings.{row, good, quiet-before, silent, loud, quiet-end}
 use Rattle.delivery.specs.Written.{Writable, hasCell, WrittenAt, BehindFrame, Follows, InPlace, WellFormed, WrittenFrames}
 
 -- cycle t of a run, counted from cycle s on

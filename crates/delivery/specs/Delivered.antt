@@ -11,7 +11,7 @@ use Rattle.runs.specs.Run.{Run, sent, head}
 use Rattle.runs.specs.Routing.{Asks, AskedFor, Wins}
 use Rattle.runs.specs.Frame.{ActiveFrame}
 use Rattle.frames.specs.Listed.{listed, trimmed}
-use Rattle.frames.specs.Plan.{Plan, cellOf, isCell, headerIn, bodyIn, th, te}
+use Rattle.plans.specs.Plan.{Plan, cellOf, isCell, headerIn, bodyIn, th, te}
 use Rattle.delivery.specs.Written.{hasCell, InPlace}
 
 -- what head o shows of a frame: its bytes of th+5..te+2, which are te-th-2 cycles, up to the last that is not zero

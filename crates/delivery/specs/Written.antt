@@ -11,8 +11,8 @@ use Rattle.fabric.specs.Run.{resetMachine}
 use Rattle.runs.specs.Run.{Run, runFrom, FromReset, FrameStartAt}
 use Rattle.runs.specs.Frame.{ActiveFrame, InactiveFrame}
 use Rattle.capture.specs.Capture.{inputsIn}
-use Rattle.frames.specs.Plan.{Plan, planned, cellOf, isCell, th, te, inputsOf}
-use Rattle.frames.specs.Refusal.{writeRefusal}
+use Rattle.plans.specs.Plan.{Plan, planned, cellOf, isCell, th, te, inputsOf}
+use Rattle.plans.specs.Refusal.{writeRefusal}
 use Rattle.frames.specs.Writing.{frameRecords}
 
 -- a frame that writing does not refuse, given room

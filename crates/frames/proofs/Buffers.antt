@@ -8,13 +8,13 @@ use borrow.Author.Tests.{le-leb, lt-leb, eq-eqb, ne-eqb}
 use Rattle.text.specs.Page.{page, Wrote}
 use Rattle.routing.proofs.Equal.{two}
 use Rattle.text.proofs.Room.{stands, behind-it}
-use Rattle.frames.specs.Plan.{Plan, te}
-use Rattle.frames.specs.Refusal.{writeRefusal}
+use Rattle.plans.specs.Plan.{Plan, te}
+use Rattle.plans.specs.Refusal.{writeRefusal}
 use Rattle.frames.specs.Writing.{frameRecords, frameWrites}
 use Rattle.frames.specs.Reading.{sentBy, sentFrom, rowsFrom, fromHeader, sentIn, asCell, cellIn, cellWrites}
 use Rattle.frames.proofs.Lists.{listed-length}
 use Rattle.frames.proofs.Writes.{records-length}
-use Rattle.frames.proofs.Refusals.{taken}
+use Rattle.plans.proofs.Refusals.{taken}
 
 -- a frame, written or refused
 module _ (p : Plan) (buffer : List ℕ) {n : ℕ} (is : n ≡ writeRefusal p (length buffer)) where

@@ -1,9 +1,4 @@
-pub mod Cells
-pub mod Refusals
 pub mod Writes
 pub mod Lists
 pub mod Searches
 pub mod Buffers
-pub mod Placed
-pub mod Takings
-pub mod ReadBack

@@ -13,7 +13,7 @@ use Rattle.text.specs.Page.{Page, page, Wrote}
 use Rattle.text.proofs.Pages.{_then_, spelt, nothing}
 use Rattle.fabric.specs.declared.cycle.Inputs.{Inputs}
 use Rattle.records.specs.Record.{byteAt, recordOf}
-use Rattle.frames.specs.Plan.{Plan, sentOf, sends, inputsOf}
+use Rattle.plans.specs.Plan.{Plan, sentOf, sends, inputsOf}
 use Rattle.frames.specs.Writing.{recordsOf}
 
 -- before the header nothing is sent, from it on the cell

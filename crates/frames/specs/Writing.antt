@@ -5,8 +5,8 @@ use Prim.Native.Nat.{ℕ, zero, suc, _*_}
 use lib.Dec.{eqb}
 use lib.ListN.{length, drop}
 use Rattle.records.specs.Record.{recordOf}
-use Rattle.frames.specs.Plan.{Plan, te, inputsOf}
-use Rattle.frames.specs.Refusal.{writeRefusal}
+use Rattle.plans.specs.Plan.{Plan, te, inputsOf}
+use Rattle.plans.specs.Refusal.{writeRefusal}
 
 -- the records of the first n cycles, one after the other
 unfoldable pub recordsOf : Plan → ℕ → List ℕ

@@ -3,7 +3,6 @@
 //! A cell is lent as bytes, its header first and its body behind it; no bytes are no cell.
 
 mod reading;
-mod refusal;
 mod writing;
 
 pub use reading::read_cell;

@@ -3,10 +3,9 @@ ghost use mathlib.Core.Path.{_≡_};
 ghost use mathlib.Core.List.{[], _∷_};
 ghost use lib.ListN.{length};
 ghost use Rattle.text.specs.Page.{page, Wrote};
-ghost use Rattle.frames.specs.Plan.{planned, sentOf};
-ghost use Rattle.frames.specs.Refusal.{writeRefusal};
+ghost use Rattle.plans.specs.Plan.{planned, sentOf};
+ghost use Rattle.plans.specs.Refusal.{writeRefusal};
 ghost use Rattle.frames.specs.Writing.{frameRecords, frameWrites};
-use super::refusal;
 use fabric::Inputs;
 
 // What an input with this cell sends in cycle k, with the headers in cycle `first`.
@@ -68,7 +67,7 @@ pub fn write_frame(
     ensures writes { λ r. ⌜ now (out .exit) ≡ frameWrites (planned gap cycles acks (now (cell0 .entry) ∷ now (cell1 .entry) ∷ now (cell2 .entry) ∷ now (cell3 .entry) ∷ [])) (now (out .entry)) ⌝ }
 {
     let room = out.len();
-    let number = refusal::write_refusal(gap, cycles, acks, cell0, cell1, cell2, cell3, room);
+    let number = plans::write_refusal(gap, cycles, acks, cell0, cell1, cell2, cell3, room);
     if number != 0 {
         return number;
     }

@@ -9,8 +9,8 @@ use borrow.Author.Tests.{eq-eqb, ne-eqb, lt-ltb, le-ltb}
 use Rattle.text.specs.Ascii.{ascii}
 use Rattle.text.specs.Page.{Page, page, Wrote}
 use Rattle.text.proofs.Pages.{spelt}
-use Rattle.frames.specs.Plan.{te}
-use Rattle.frames.specs.Refusal.{writeRefusal}
+use Rattle.plans.specs.Plan.{te}
+use Rattle.plans.specs.Refusal.{writeRefusal}
 use Rattle.frames.specs.Writing.{frameRecords, frameWrites}
 use Rattle.frames.proofs.Buffers.{frame-stands, frame-refused}
 use Rattle.orders.specs.Order.{orderSize, orderCycles, planOf}

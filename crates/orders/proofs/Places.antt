@@ -8,7 +8,7 @@ use borrow.Author.Tests.{eq-eqb, ne-eqb}
 use Rattle.routing.specs.Four.{four}
 use Rattle.routing.proofs.Equal.{two, row-of}
 use Rattle.records.specs.Record.{byteAt}
-use Rattle.frames.specs.Plan.{planned}
+use Rattle.plans.specs.Plan.{planned}
 use Rattle.orders.specs.Order.{orderCycles, orderAcks, cellSize, placeOf, orderCell, planOf}
 
 module _ (order : List ℕ) where

@@ -7,7 +7,7 @@ use lib.Dec.{eqb}
 use lib.ListN.{take, drop}
 use Rattle.routing.specs.Four.{four, bitAt}
 use Rattle.records.specs.Record.{byteAt}
-use Rattle.frames.specs.Plan.{Plan, planned}
+use Rattle.plans.specs.Plan.{Plan, planned}
 
 abbrev pub orderCycles : List ℕ → ℕ
 orderCycles order = 256 * byteAt order 1 + byteAt order 2

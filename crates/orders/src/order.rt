@@ -2,7 +2,7 @@
 ghost use mathlib.Core.Path.{_≡_};
 ghost use Prim.Native.Nat.{_≤_};
 ghost use lib.ListN.{length, take, drop};
-ghost use Rattle.frames.specs.Refusal.{writeRefusal};
+ghost use Rattle.plans.specs.Refusal.{writeRefusal};
 ghost use Rattle.frames.specs.Writing.{frameWrites};
 ghost use Rattle.orders.specs.Order.{orderCycles, orderAcks, cellSize, orderSize, planOf};
 

@@ -6,7 +6,7 @@ use borrow.Author.Needs.{needs}
 use lib.ListN.{length}
 use Rattle.text.specs.Page.{page, Wrote}
 use Rattle.text.proofs.Pages.{spelt}
-use Rattle.frames.specs.Plan.{planned}
+use Rattle.plans.specs.Plan.{planned}
 use Rattle.frames.specs.Writing.{recordsOf}
 use Rattle.frames.proofs.Writes.{made, none-yet, one-more}
 use Rattle.frames.proofs.writing.put_records.Statement.{statement}

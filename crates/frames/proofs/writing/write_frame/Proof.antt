@@ -1,7 +1,7 @@
 use mathlib.Core.Path.{sym, _∙_}
 use mathlib.Core.List.{[], _∷_}
 use borrow.Author.Needs.{needs}
-use Rattle.frames.specs.Plan.{planned}
+use Rattle.plans.specs.Plan.{planned}
 use Rattle.frames.proofs.Buffers.{frame-written, frame-refused}
 use Rattle.frames.proofs.writing.write_frame.Statement.{statement}
 use Rattle.frames.proofs.writing.write_frame.Tie as tie

@@ -1,8 +1,8 @@
 use borrow.Author.Needs.{needs}
 use mathlib.Core.Path.{ap, _∙_}
 use lib.ListN.{length}
-use Rattle.frames.specs.Plan.{Plan}
-use Rattle.frames.specs.Refusal.{writeRefusal}
+use Rattle.plans.specs.Plan.{Plan}
+use Rattle.plans.specs.Refusal.{writeRefusal}
 use Rattle.frames.specs.Writing.{frameWrites}
 use Rattle.orders.proofs.Places.{first-place, next-place, cell-is, plan-is}
 use Rattle.orders.proofs.order.write_order.Statement.{statement}
