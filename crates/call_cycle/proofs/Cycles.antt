@@ -7,7 +7,7 @@ use Rattle.states.specs.declared.state.State.{State}
 use Rattle.fabric.specs.declared.cycle.Inputs.{Inputs}
 use Rattle.fabric.specs.Cycle.{machine, cycleOf}
 use Rattle.records.specs.Record.{inputsFrom}
-use Rattle.capture.specs.Capture.{recordAt}
+use Rattle.places.specs.Capture.{recordAt}
 use Rattle.image.specs.Image.{stateFrom, rowsFrom}
 use Rattle.call_cycle.specs.Cycle.{asked}
 

@@ -14,7 +14,7 @@ use Rattle.routing.specs.declared.route.Report.the-variants.{NoRouting, Routing
 use Rattle.fabric.specs.declared.cycle.Cycled.{Cycled}
 use Rattle.fabric.specs.Cycle.{machine, cycleOf}
 use Rattle.records.specs.Record.{answerBytes}
-use Rattle.capture.specs.Capture.{inputsIn}
+use Rattle.places.specs.Capture.{inputsIn}
 use Rattle.engine.specs.declared.cycle.GateCycled.{GateCycled}
 use Rattle.engine.specs.Cycle.{unreported}
 use Rattle.image.specs.Image.{machineFrom}

@@ -116,7 +116,7 @@ pub fn put_cycle(out: &mut [u8], payload: &[u8], by_gates: bool) -> usize
     }
     let s = image::state_from(payload);
     let rows = image::rows_from(payload);
-    let inputs = records::inputs_from(capture::record_at(payload, 5));
+    let inputs = records::inputs_from(places::record_at(payload, 5));
     if by_gates {
         return put_gates(out, engine::single_cycle(s, rows, inputs));
     }

@@ -8,7 +8,7 @@ use Rattle.fabric.specs.Cycle.{Machine}
 use Rattle.capture.specs.declared.refusal.Judged.{Judged}
 use Rattle.capture.specs.declared.refusal.Judged.the-variants.{Refused, Done}
 use Rattle.capture.specs.declared.run.Replayed.{Replayed}
-use Rattle.capture.specs.Capture.{records}
+use Rattle.places.specs.Capture.{records}
 use Rattle.capture.specs.Refusal.{judged}
 use Rattle.capture.specs.Replay.{endOf, answers, handedBack, replayedAs, replayOf, writtenAs, replayWrites}
 

@@ -11,7 +11,7 @@ use Rattle.states.specs.declared.state.State.{State}
 use Rattle.states.specs.State.{_when_otherwise_, stateRefusal}
 use Rattle.states.proofs.Calls.{by-first, by-later, both-zero}
 use Rattle.capture.specs.declared.refusal.Judged.the-variants.{Refused, Done}
-use Rattle.capture.specs.Capture.{records}
+use Rattle.places.specs.Capture.{records}
 use Rattle.capture.specs.Refusal.{limit, earlyRefusal, firstBad, judged}
 
 abbrev later : List ℕ → ℕ → ℕ

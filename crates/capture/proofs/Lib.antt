@@ -1,4 +1,3 @@
-pub mod Records
 pub mod Bads
 pub mod Fates
 pub mod Loops

@@ -15,8 +15,8 @@ use Rattle.routing.proofs.Equal.{two}
 use Rattle.records.specs.Record.{answerBytes}
 use Rattle.records.specs.Answers.{answerOf, answersOf}
 use Rattle.records.proofs.Answered.{answers-length}
-use Rattle.capture.specs.Capture.{records, inputsIn, withAnswer}
-use Rattle.capture.proofs.Records.{answer-there}
+use Rattle.places.specs.Capture.{records, inputsIn, withAnswer}
+use Rattle.places.proofs.Records.{answer-there}
 
 -- the buffer is b at the start; after k records the machine is at s and rows, and the buffer is l
 pub record After (m : Machine) (capture b l : List ℕ) (s : State) (rows : List (List ℕ)) (k : ℕ) : Type 0 where

@@ -1,3 +1,2 @@
-pub mod Capture
 pub mod Refusal
 pub mod Replay

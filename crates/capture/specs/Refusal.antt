@@ -9,7 +9,7 @@ use Rattle.states.specs.State.{_when_otherwise_, _orElse_, stateRefusal}
 use Rattle.records.specs.Record.{byteAt, spareSet}
 use Rattle.capture.specs.declared.refusal.Judged.{Judged}
 use Rattle.capture.specs.declared.refusal.Judged.the-variants.{Refused, Done}
-use Rattle.capture.specs.Capture.{records, recordAt}
+use Rattle.places.specs.Capture.{records, recordAt}
 
 -- refusal 4's limit
 abbrev pub limit : ℕ

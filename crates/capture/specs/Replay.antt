@@ -9,7 +9,7 @@ use Rattle.records.specs.Answers.{answersOf}
 use Rattle.capture.specs.declared.refusal.Judged.{Judged}
 use Rattle.capture.specs.declared.refusal.Judged.the-variants.{Refused, Done}
 use Rattle.capture.specs.declared.run.Replayed.{Replayed}
-use Rattle.capture.specs.Capture.{records, inputsIn}
+use Rattle.places.specs.Capture.{records, inputsIn}
 use Rattle.capture.specs.Refusal.{judged}
 
 -- the machine after all records, and their answers

@@ -1,11 +1,8 @@
 //! The replay of a capture over the cycle rules of `fabric`.
 
-mod record;
 mod refusal;
 mod run;
 
-pub use record::put_answer;
-pub use record::record_at;
 pub use refusal::Judged;
 pub use refusal::judge;
 pub use run::Replayed;

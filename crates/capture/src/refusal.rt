@@ -1,7 +1,7 @@
 // What becomes of a replay, known before the first byte is written. Both engines' replays go by it.
 ghost use mathlib.Core.Path.{_≡_};
 ghost use Rattle.records.specs.Record.{spareSet};
-ghost use Rattle.capture.specs.Capture.{records};
+ghost use Rattle.places.specs.Capture.{records};
 ghost use Rattle.capture.specs.Refusal.{earlyRefusal, firstBad, judged};
 use states::State;
 

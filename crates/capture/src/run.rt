@@ -4,9 +4,8 @@ ghost use mathlib.Core.List.{_++_};
 ghost use Prim.Native.Nat.{_*_, _≤_};
 ghost use lib.ListN.{length, drop};
 ghost use Rattle.fabric.specs.Cycle.{machine};
-ghost use Rattle.capture.specs.Capture.{records};
+ghost use Rattle.places.specs.Capture.{records};
 ghost use Rattle.capture.specs.Replay.{endOf, answers, handedBack, replayOf, replayWrites};
-use super::record;
 use super::refusal;
 use super::refusal::Judged;
 use states::State;
@@ -52,11 +51,11 @@ fn run(s: State, rows: [[u8; 4]; 4], capture: &[u8], buffer: &mut [u8]) -> Repla
     let mut r = rows;
     let mut k: usize = 0;
     while k < n {
-        let i = records::inputs_from(record::record_at(capture, k));
+        let i = records::inputs_from(places::record_at(capture, k));
         let t = fabric::step(state, r, i);
         let acks = t.acks;
         let shown = t.shown;
-        record::put_answer(&mut *buffer, k, records::answer_bytes(acks, shown));
+        places::put_answer(&mut *buffer, k, records::answer_bytes(acks, shown));
         let first = t.first;
         let second = t.second;
         let switched = t.switched;

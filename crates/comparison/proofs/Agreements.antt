@@ -9,7 +9,7 @@ use Rattle.text.specs.declared.difference.Difference.the-variants.{Same, At}
 use Rattle.text.specs.Differ.{firstDifference}
 use Rattle.text.proofs.Differences.{itself}
 use Rattle.capture.specs.declared.run.Replayed.{Replayed}
-use Rattle.capture.specs.Capture.{records}
+use Rattle.places.specs.Capture.{records}
 use Rattle.image.specs.Image.{imageOf}
 use Rattle.comparison.specs.Agreement.{ending, sameEnd, byRecord, disagreementOf}
 

@@ -14,7 +14,7 @@ use Rattle.text.proofs.Room.{all-there}
 use Rattle.states.specs.State.{resetState, stateRefusal}
 use Rattle.fabric.specs.Run.{resetMachine}
 use Rattle.records.proofs.Answered.{answers-length}
-use Rattle.capture.specs.Capture.{records, inputsIn}
+use Rattle.places.specs.Capture.{records, inputsIn}
 use Rattle.capture.specs.Refusal.{limit, earlyRefusal, firstBad}
 use Rattle.capture.specs.Replay.{answers}
 use Rattle.capture.proofs.Fates.{no-number, refused-3, done}

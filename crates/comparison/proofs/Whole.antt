@@ -12,7 +12,7 @@ use Rattle.routing.proofs.Equal.{two}
 use Rattle.states.specs.State.{resetState, stateRefusal}
 use Rattle.fabric.specs.Run.{resetMachine}
 use Rattle.capture.specs.declared.refusal.Judged.{Judged}
-use Rattle.capture.specs.Capture.{records}
+use Rattle.places.specs.Capture.{records}
 use Rattle.capture.specs.Refusal.{limit, judged}
 use Rattle.capture.specs.Replay.{replayedAs, writtenAs}
 use Rattle.capture.proofs.Fates.{number-1, number-4, refused-early}

@@ -8,7 +8,7 @@ use Rattle.text.specs.declared.difference.Difference.the-variants.{Same, At}
 use Rattle.text.specs.Differ.{firstDifference}
 use Rattle.fabric.specs.Cycle.{Machine, machine}
 use Rattle.capture.specs.declared.run.Replayed.{Replayed}
-use Rattle.capture.specs.Capture.{records}
+use Rattle.places.specs.Capture.{records}
 use Rattle.image.specs.Image.{imageOf}
 
 -- the machine that a replay hands back

@@ -8,7 +8,7 @@ use native.Mathlib.Omega.{arith}
 use lib.ListN.{length, length-append}
 use Rattle.fabric.specs.Cycle.{Machine}
 use Rattle.fabric.specs.Run.{resetMachine, runOf}
-use Rattle.capture.specs.Capture.{inputsIn}
+use Rattle.places.specs.Capture.{inputsIn}
 use Rattle.runs.specs.Run.{Run, runFrom, FrameStartAt}
 use Rattle.promises.proofs.Recording.{record-read}
 use Rattle.plans.specs.Plan.{Plan, te, inputsOf}

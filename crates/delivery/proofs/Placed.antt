@@ -9,8 +9,8 @@ use lib.ListN.{length, length-append}
 use lib.Seq.{getD-append-add}
 use Rattle.fabric.specs.declared.cycle.Inputs.{Inputs}
 use Rattle.records.specs.Record.{byteAt, recordOf, inputsFrom}
-use Rattle.capture.specs.Capture.{records, fiveAt, recordAt, inputsIn}
-use Rattle.capture.proofs.Records.{record-there}
+use Rattle.places.specs.Capture.{records, fiveAt, recordAt, inputsIn}
+use Rattle.places.proofs.Records.{record-there}
 use Rattle.plans.specs.Plan.{Plan, te, inputsOf}
 use Rattle.frames.specs.Writing.{recordsOf, frameRecords}
 use Rattle.frames.proofs.Writes.{records-length}

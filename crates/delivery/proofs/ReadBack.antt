@@ -13,7 +13,7 @@ use Rattle.routing.specs.Header.{active, someActive}
 use Rattle.routing.proofs.Fours.{at-four, no-at}
 use Rattle.fabric.specs.declared.cycle.Inputs.{Inputs}
 use Rattle.records.specs.Record.{byteAt}
-use Rattle.capture.specs.Capture.{records, inputsIn}
+use Rattle.places.specs.Capture.{records, inputsIn}
 use Rattle.frames.specs.Listed.{listed, trimmed}
 use Rattle.plans.specs.Plan.{Plan, cellOf, isCell, th, te, sends}
 use Rattle.plans.specs.Refusal.{writeRefusal}

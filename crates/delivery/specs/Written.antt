@@ -10,7 +10,7 @@ use Rattle.fabric.specs.Cycle.{Machine}
 use Rattle.fabric.specs.Run.{resetMachine}
 use Rattle.runs.specs.Run.{Run, runFrom, FromReset, FrameStartAt}
 use Rattle.runs.specs.Frame.{ActiveFrame, InactiveFrame}
-use Rattle.capture.specs.Capture.{inputsIn}
+use Rattle.places.specs.Capture.{inputsIn}
 use Rattle.plans.specs.Plan.{Plan, planned, cellOf, isCell, th, te, inputsOf}
 use Rattle.plans.specs.Refusal.{writeRefusal}
 use Rattle.frames.specs.Writing.{frameRecords}

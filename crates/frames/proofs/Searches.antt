@@ -15,8 +15,8 @@ use Rattle.states.specs.State.{zeroRow}
 use Rattle.text.specs.Page.{page, Wrote}
 use Rattle.text.proofs.Room.{behind-it}
 use Rattle.records.specs.Record.{byteAt, inputsFrom}
-use Rattle.capture.specs.Capture.{records, inputsIn}
-use Rattle.capture.proofs.Records.{record-past}
+use Rattle.places.specs.Capture.{records, inputsIn}
+use Rattle.places.proofs.Records.{record-past}
 use Rattle.frames.specs.Listed.{listed, trimmed}
 use Rattle.frames.specs.Reading.{sentBy, sentFrom, rowsFrom, fromHeader, sentIn, asCell, cellIn, cellWrites}
 use Rattle.frames.proofs.Lists.{listed-length, listed-next, listed-none, listed-last, listed-map, trimmed-zero, trimmed-end, trimmed-first}

@@ -7,7 +7,7 @@ use lib.Dec.{leb}
 use lib.ListN.{length, drop}
 use Rattle.routing.specs.Header.{active, someActive}
 use Rattle.records.specs.Record.{byteAt}
-use Rattle.capture.specs.Capture.{records, inputsIn}
+use Rattle.places.specs.Capture.{records, inputsIn}
 use Rattle.frames.specs.Listed.{listed, trimmed}
 
 -- what input i sends in record k, and in n records from record k on; an input that is not one of 0..3 sends zeros

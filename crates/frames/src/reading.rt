@@ -12,7 +12,7 @@ fn header_record(frame: &[u8]) -> usize
     let n = frame.len() / 5;
     let mut k: usize = 0;
     while k < n {
-        let i = records::inputs_from(capture::record_at(frame, k));
+        let i = records::inputs_from(places::record_at(frame, k));
         let bytes = i.bytes;
         if routing::routes(true, bytes) {
             return k;
@@ -25,7 +25,7 @@ fn header_record(frame: &[u8]) -> usize
 fn sent_at(frame: &[u8], k: usize, input: usize) -> u8
     ensures { λ r. ⌜ r ≡ sentBy (now (frame .entry)) input k ⌝ }
 {
-    let i = records::inputs_from(capture::record_at(frame, k));
+    let i = records::inputs_from(places::record_at(frame, k));
     let bytes = i.bytes;
     image::byte_at(&bytes, input)
 }

@@ -9,7 +9,7 @@ use lib.ListN.{length, length-append}
 use Rattle.text.specs.Ascii.{ascii}
 use Rattle.text.specs.Digits.{decimal}
 use Rattle.text.proofs.Decimals.{few-digits}
-use Rattle.capture.specs.Capture.{records, fiveAt, recordAt}
+use Rattle.places.specs.Capture.{records, fiveAt, recordAt}
 use Rattle.listing.specs.Listing.{heading, columns, line, linesFrom, listing}
 
 -- a record has five bytes, past the end too

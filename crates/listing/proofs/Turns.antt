@@ -8,7 +8,7 @@ use lib.ListN.{length, getD, drop, drop-of-length-le}
 use Rattle.text.specs.Ascii.{ascii}
 use Rattle.text.specs.Digits.{hex}
 use Rattle.text.proofs.Pages.{next-byte}
-use Rattle.capture.specs.Capture.{recordAt}
+use Rattle.places.specs.Capture.{recordAt}
 use Rattle.listing.specs.Listing.{columns, line, linesFrom}
 
 pub next-column : (bytes : List ℕ) (i : ℕ) → i < length bytes → columns (drop i bytes) ≡ (ascii " " ++ hex (getD bytes i 0)) ++ columns (drop (i + 1) bytes)

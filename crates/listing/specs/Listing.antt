@@ -3,7 +3,7 @@ use mathlib.Core.List.{List, [], _∷_, _++_}
 use Prim.Native.Nat.{ℕ, zero, suc}
 use Rattle.text.specs.Ascii.{ascii}
 use Rattle.text.specs.Digits.{decimal, hex}
-use Rattle.capture.specs.Capture.{records, recordAt}
+use Rattle.places.specs.Capture.{records, recordAt}
 
 abbrev pub heading : List ℕ
 heading = ascii "cycle ack h0 h1 h2 h3\n"

@@ -1,6 +1,6 @@
 // The heading and a line for each cycle.
 ghost use Rattle.text.specs.Page.{page, Wrote};
-ghost use Rattle.capture.specs.Capture.{records};
+ghost use Rattle.places.specs.Capture.{records};
 ghost use Rattle.listing.specs.Listing.{heading, columns, line, linesFrom, listing};
 
 fn put_columns(out: &mut [u8], place: usize, bytes: &[u8]) -> usize
@@ -32,7 +32,7 @@ fn put_lines(out: &mut [u8], place: usize, answers: &[u8]) -> usize
     let mut next = place;
     let mut k: usize = 0;
     while k < n {
-        next = put_line(&mut *out, next, k, capture::record_at(answers, k));
+        next = put_line(&mut *out, next, k, places::record_at(answers, k));
         k += 1;
     }
     next

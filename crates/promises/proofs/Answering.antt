@@ -24,10 +24,10 @@ use Rattle.records.specs.Record.{byteAt, flagAt, inputsFrom}
 use Rattle.records.specs.Answers.{answerOf, answersOf}
 use Rattle.records.proofs.Answered.{answers-length}
 use Rattle.capture.specs.declared.refusal.Judged.the-variants.{Done}
-use Rattle.capture.specs.Capture.{records, fiveAt, inputsIn}
+use Rattle.places.specs.Capture.{records, fiveAt, inputsIn}
 use Rattle.capture.specs.Refusal.{judged}
 use Rattle.capture.specs.Replay.{replayWrites}
-use Rattle.capture.proofs.Records.{record-there}
+use Rattle.places.proofs.Records.{record-there}
 use Rattle.runs.specs.Run.{sent, holder}
 use Rattle.runs.specs.Showing.{before, shutTwoBefore, holderTwoBefore}
 use Rattle.runs.proofs.Accepting.{cycle-accepted, run-accepted, reset-accepted}

@@ -15,10 +15,10 @@ use Rattle.records.specs.Record.{byteAt, spareSet, inputsFrom}
 use Rattle.records.specs.Answers.{answersOf}
 use Rattle.records.proofs.Answered.{answers-length, answers-cut, answers-same}
 use Rattle.capture.specs.declared.refusal.Judged.{Judged}
-use Rattle.capture.specs.Capture.{records, fiveAt, recordAt, inputsIn}
+use Rattle.places.specs.Capture.{records, fiveAt, recordAt, inputsIn}
 use Rattle.capture.specs.Refusal.{bad, firstBad}
 use Rattle.capture.specs.Replay.{endOf, answers, replayedAs, writtenAs}
-use Rattle.capture.proofs.Records.{record-there}
+use Rattle.places.proofs.Records.{record-there}
 use Rattle.capture.proofs.Bads.{all-good, good-at}
 use Rattle.capture.proofs.Fates.{doable, is-done}
 use Rattle.promises.specs.Joined.{ReplayIsRun, ReplayRefused, EmptyReplay, JoinedReplay, JoinedDone}

@@ -11,7 +11,7 @@ use Rattle.fabric.specs.Cycle.{Machine, stepOf, cycleOf}
 use Rattle.fabric.specs.Run.{resetMachine}
 use Rattle.records.specs.Record.{byteAt}
 use Rattle.capture.specs.declared.refusal.Judged.the-variants.{Done}
-use Rattle.capture.specs.Capture.{records, inputsIn}
+use Rattle.places.specs.Capture.{records, inputsIn}
 use Rattle.capture.specs.Refusal.{judged}
 use Rattle.capture.specs.Replay.{replayWrites}
 use Rattle.runs.specs.Run.{Run, runFrom, Accepted, sent, head, ack}

@@ -7,7 +7,7 @@ use Rattle.fabric.specs.Cycle.{Machine}
 use Rattle.fabric.specs.Run.{runOf}
 use Rattle.records.specs.Answers.{answersOf}
 use Rattle.capture.specs.declared.refusal.Judged.the-variants.{Refused, Done}
-use Rattle.capture.specs.Capture.{records, inputsIn}
+use Rattle.places.specs.Capture.{records, inputsIn}
 use Rattle.capture.specs.Refusal.{limit, judged}
 use Rattle.runs.specs.Run.{Accepted}
 use Rattle.capture.specs.Replay.{endOf, answers, handedBack, replayOf, replayWrites}

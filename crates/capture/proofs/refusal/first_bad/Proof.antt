@@ -3,9 +3,9 @@ use Prim.Native.Nat.{_-_}
 use native.Mathlib.Omega.{arith}
 use borrow.Author.Needs.{needs}
 use Rattle.records.specs.Record.{spareSet}
-use Rattle.capture.specs.Capture.{records}
+use Rattle.places.specs.Capture.{records}
 use Rattle.capture.specs.Refusal.{firstBad}
-use Rattle.capture.proofs.Records.{first-byte}
+use Rattle.places.proofs.Records.{first-byte}
 use Rattle.capture.proofs.Bads.{found, passed, none}
 use Rattle.capture.proofs.refusal.first_bad.Statement.{statement}
 use Rattle.capture.proofs.refusal.first_bad.Tie as tie

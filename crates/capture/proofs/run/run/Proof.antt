@@ -6,7 +6,7 @@ use borrow.Author.Needs.{needs}
 use Rattle.fabric.specs.declared.cycle.Cycled.{Cycled}
 use Rattle.fabric.specs.Cycle.{machine, rowsAfter, stepOf}
 use Rattle.records.specs.Record.{inputsFrom}
-use Rattle.capture.specs.Capture.{inputsIn, withAnswer}
+use Rattle.places.specs.Capture.{inputsIn, withAnswer}
 use Rattle.capture.specs.Replay.{handedBack}
 use Rattle.capture.proofs.Loops.{After, start, turn, finished}
 use Rattle.capture.proofs.run.run.Statement.{statement}

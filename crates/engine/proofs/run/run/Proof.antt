@@ -10,7 +10,7 @@ use Rattle.engine.specs.declared.cycle.GateCycled.{GateCycled}
 use Rattle.engine.specs.Cycle.{unreported}
 use Rattle.engine.proofs.Cycles.{held-after}
 use Rattle.records.specs.Record.{inputsFrom}
-use Rattle.capture.specs.Capture.{inputsIn, withAnswer}
+use Rattle.places.specs.Capture.{inputsIn, withAnswer}
 use Rattle.capture.specs.Replay.{handedBack}
 use Rattle.capture.proofs.Loops.{After, start, turn, finished}
 use Rattle.engine.proofs.run.run.Statement.{statement}

@@ -5,7 +5,7 @@ use borrow.Author.Needs.{needs}
 use Rattle.routing.specs.Header.{someActive}
 use Rattle.fabric.specs.declared.cycle.Inputs.{Inputs}
 use Rattle.records.specs.Record.{inputsFrom}
-use Rattle.capture.specs.Capture.{records, inputsIn}
+use Rattle.places.specs.Capture.{records, inputsIn}
 use Rattle.frames.specs.Reading.{rowsFrom, fromHeader}
 use Rattle.frames.proofs.Searches.{found, passed, none}
 use Rattle.frames.proofs.reading.header_record.Statement.{statement}

@@ -5,8 +5,8 @@ use lib.ListN.{length-set}
 use lib.Seq.{sets}
 use Rattle.records.proofs.Places.{add-two, add-three, add-four, spelt}
 use borrow.Author.Needs.{needs}
-use Rattle.capture.proofs.record.put_five.Statement.{statement}
-use Rattle.capture.proofs.record.put_five.Tie as tie
+use Rattle.places.proofs.record.put_five.Statement.{statement}
+use Rattle.places.proofs.record.put_five.Tie as tie
 
 slice-write-buffer-2 : tie.Need-slice-write-buffer-2
 slice-write-buffer-2 c = simp length-set (omega arith)

@@ -1,8 +1,8 @@
 use mathlib.Core.Path.{sym, _∙_}
-use Rattle.capture.proofs.Records.{answer-there, answer-past}
+use Rattle.places.proofs.Records.{answer-there, answer-past}
 use borrow.Author.Needs.{needs}
-use Rattle.capture.proofs.record.put_answer.Statement.{statement}
-use Rattle.capture.proofs.record.put_answer.Tie as tie
+use Rattle.places.proofs.record.put_answer.Statement.{statement}
+use Rattle.places.proofs.record.put_answer.Tie as tie
 
 returns : tie.Need-returns
 returns c = c .before .before .put-five .ensures ∙ sym (answer-there _ _ _ (c .before .before .before .before .if1 .taken))

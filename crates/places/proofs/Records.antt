@@ -5,7 +5,7 @@ use Prim.Native.Nat.{ℕ, _*_, _<_, _≤_}
 use lib.Seq.{sets}
 use borrow.Author.Tests.{lt-ltb, le-ltb}
 use Rattle.records.specs.Record.{byteAt}
-use Rattle.capture.specs.Capture.{records, fiveAt, recordAt, withAnswer}
+use Rattle.places.specs.Capture.{records, fiveAt, recordAt, withAnswer}
 
 module _ (bytes : List ℕ) (k : ℕ) where
   pub record-there : k < records bytes → recordAt bytes k ≡ fiveAt bytes (5 * k)

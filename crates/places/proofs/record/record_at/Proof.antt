@@ -1,8 +1,8 @@
 use mathlib.Core.Path.{sym, _∙_}
-use Rattle.capture.proofs.Records.{record-there, record-past}
+use Rattle.places.proofs.Records.{record-there, record-past}
 use borrow.Author.Needs.{needs}
-use Rattle.capture.proofs.record.record_at.Statement.{statement}
-use Rattle.capture.proofs.record.record_at.Tie as tie
+use Rattle.places.proofs.record.record_at.Statement.{statement}
+use Rattle.places.proofs.record.record_at.Tie as tie
 
 returns : tie.Need-returns
 returns c = c .five-at .ensures ∙ sym (record-there _ _ (c .before .if1 .taken))

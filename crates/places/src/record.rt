@@ -3,7 +3,7 @@ ghost use mathlib.Core.Path.{_≡_};
 ghost use Prim.Native.Nat.{_+_, _<_};
 ghost use lib.ListN.{length};
 ghost use lib.Seq.{sets};
-ghost use Rattle.capture.specs.Capture.{fiveAt, recordAt, withAnswer};
+ghost use Rattle.places.specs.Capture.{fiveAt, recordAt, withAnswer};
 
 fn five_at(capture: &[u8], at: usize) -> [u8; 5]
     requires { ⌜ at + 4 < length (now capture) ⌝ }
