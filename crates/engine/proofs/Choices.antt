@@ -16,8 +16,8 @@ use Rattle.states.specs.State.{shutAt, holderAt, Held}
 use Rattle.fabric.specs.Cycle.{acked, switchByte, switchAfter}
 use Rattle.blocks.specs.Choose.{chosen}
 use Rattle.blocks.proofs.Truths.{select-law, choose-law}
-use Rattle.engine.specs.Wiring.{bitsOf, selecting, choosing, switching, acking, letting, gateAcks, gateSwitch}
-use Rattle.engine.proofs.Equal.{lines-of}
+use Rattle.wiring.specs.Wiring.{bitsOf, selecting, choosing, switching, acking, letting, gateAcks, gateSwitch}
+use Rattle.wiring.proofs.Equal.{lines-of}
 use Rattle.engine.proofs.Headers.{holder-bits, byte-bits}
 
 -- an output lets its holder through where it is open

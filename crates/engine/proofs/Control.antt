@@ -25,7 +25,7 @@ use Rattle.blocks.specs.Filter.{filtered}
 use Rattle.blocks.specs.Turn.{numberOf}
 use Rattle.blocks.specs.Shut.{shutNext}
 use Rattle.blocks.proofs.Truths.{decode-high, decode-asks, filter-law, phase-routing, phase-waiting, turn-law, shut-law}
-use Rattle.engine.specs.Wiring.{decoding, phasing, requestsOf, filtering, turning, remaining, gateState}
+use Rattle.wiring.specs.Wiring.{decoding, phasing, requestsOf, filtering, turning, remaining, gateState}
 use Rattle.engine.proofs.Headers.{active-bit, output-bits, holder-bits}
 
 -- the nets of a decoding say what the header asks for

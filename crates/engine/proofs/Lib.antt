@@ -1,4 +1,3 @@
-pub mod Equal
 pub mod Headers
 pub mod Control
 pub mod Choices

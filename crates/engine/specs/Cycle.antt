@@ -4,7 +4,7 @@ use Rattle.fabric.specs.declared.cycle.Cycled.{Cycled}
 use Rattle.states.specs.State.{firstRow, secondRow, switchRow}
 use Rattle.fabric.specs.Cycle.{Machine, shown}
 use Rattle.engine.specs.declared.cycle.GateCycled.{GateCycled}
-use Rattle.engine.specs.Wiring.{gateState, gateAcks, gateSwitch}
+use Rattle.wiring.specs.Wiring.{gateState, gateAcks, gateSwitch}
 
 -- over the meaning of the gate words: the state, the acknowledgements and the switch bytes are nets; the other bytes move on
 abbrev pub gateStepOf : Machine → Inputs → GateCycled

@@ -3,9 +3,8 @@ ghost use mathlib.Core.Path.{_≡_};
 ghost use Rattle.routing.specs.Four.{four};
 ghost use Rattle.states.specs.State.{Held};
 ghost use Rattle.fabric.specs.Cycle.{machine, acked, switchAfter, stepOf, refusedCycle, cycleOf};
-ghost use Rattle.engine.specs.Wiring.{gateState, gateAcks, gateSwitch};
+ghost use Rattle.wiring.specs.Wiring.{gateState, gateAcks, gateSwitch};
 ghost use Rattle.engine.specs.Cycle.{gateStepOf, unreported};
-use super::wiring;
 use fabric::Inputs;
 use states::State;
 

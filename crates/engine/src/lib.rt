@@ -4,7 +4,6 @@
 
 mod cycle;
 mod run;
-mod wiring;
 
 pub use cycle::GateCycled;
 pub use cycle::single_cycle;
