@@ -3,7 +3,8 @@ ghost use mathlib.Core.Path.{_≡_};
 ghost use mathlib.Core.List.{[], _∷_};
 ghost use lib.ListN.{length};
 ghost use Rattle.text.specs.Page.{page, Wrote};
-ghost use Rattle.plans.specs.Plan.{planned, sentOf};
+ghost use Rattle.records.specs.Record.{recordOf};
+ghost use Rattle.plans.specs.Plan.{planned, sentOf, inputsOf};
 ghost use Rattle.plans.specs.Refusal.{writeRefusal};
 ghost use Rattle.frames.specs.Writing.{frameRecords, frameWrites};
 use fabric::Inputs;
@@ -18,6 +19,31 @@ fn sent(first: usize, cell: &[u8], k: usize) -> u8
     image::byte_at(cell, k - first)
 }
 
+// The record of cycle k; what it is does not hang on the frame's length.
+fn record_in(
+    k: usize,
+    gap: u8,
+    acks: [bool; 4],
+    cell0: &[u8],
+    cell1: &[u8],
+    cell2: &[u8],
+    cell3: &[u8],
+) -> [u8; 5]
+    ensures { λ r. ⌜ r ≡ recordOf (inputsOf (planned gap 0 acks (now (cell0 .entry) ∷ now (cell1 .entry) ∷ now (cell2 .entry) ∷ now (cell3 .entry) ∷ [])) k) ⌝ }
+{
+    let first = gap as usize + 1;
+    records::record_of(Inputs {
+        frame: k == 0,
+        bytes: [
+            sent(first, cell0, k),
+            sent(first, cell1, k),
+            sent(first, cell2, k),
+            sent(first, cell3, k),
+        ],
+        acks,
+    })
+}
+
 fn put_records(
     out: &mut [u8],
     gap: u8,
@@ -30,22 +56,11 @@ fn put_records(
 ) -> usize
     ensures { λ r. ⌜ Wrote (page (now (out .entry)) 0) (frameRecords (planned gap cycles acks (now (cell0 .entry) ∷ now (cell1 .entry) ∷ now (cell2 .entry) ∷ now (cell3 .entry) ∷ []))) (page (now (out .exit)) r) ⌝ }
 {
-    let first = gap as usize + 1;
     let n = cycles as usize;
     let mut next: usize = 0;
     let mut k: usize = 0;
     while k < n {
-        let i = Inputs {
-            frame: k == 0,
-            bytes: [
-                sent(first, cell0, k),
-                sent(first, cell1, k),
-                sent(first, cell2, k),
-                sent(first, cell3, k),
-            ],
-            acks,
-        };
-        let five = records::record_of(i);
+        let five = record_in(k, gap, acks, cell0, cell1, cell2, cell3);
         next = text::put_text(&mut *out, next, &five);
         k += 1;
     }

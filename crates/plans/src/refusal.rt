@@ -34,14 +34,16 @@ fn body_wrong(cell: &[u8]) -> bool
     cell[n] == 0
 }
 
-// The header is sent in cycle gap + 1, so that the cell is sent up to cycle gap + its length, and the frame's last cycle is cycles - 1.
+// The header is sent in cycle gap + 1. The cycle behind the cell has to come before the next frame start, which falls in cycle `cycles`.
 fn too_late(gap: u8, cycles: u16, cell: &[u8]) -> bool
     ensures { λ r. ⌜ r ≡ tooLate (gap + 1) cycles (now (cell .entry)) ⌝ }
 {
     if cell.len() == 0 {
         return false;
     }
-    cycles as usize <= gap as usize + 1 + cell.len()
+    let behind = gap as usize + 1 + cell.len();
+    let next = cycles as usize;
+    next <= behind
 }
 
 fn some_inactive(cell0: &[u8], cell1: &[u8], cell2: &[u8], cell3: &[u8]) -> bool
