@@ -18,7 +18,7 @@ use Rattle.frames.specs.Listed.{listed, trimmed}
 use Rattle.plans.specs.Plan.{Plan, cellOf, isCell, th, te, sends}
 use Rattle.plans.specs.Refusal.{writeRefusal}
 use Rattle.frames.specs.Writing.{frameRecords, frameWrites}
-use Rattle.frames.specs.Reading.{rowsFrom, fromHeader, sentIn, asCell, cellIn}
+use Rattle.frames.specs.Reading.{rowsSent, fromHeader, columnOf, asCell, cellIn}
 use Rattle.delivery.specs.ReadBack.{CellsReadBack}
 use Rattle.frames.proofs.Lists.{listed-none, listed-map, listed-as, trimmed-back}
 use Rattle.plans.proofs.Refusals.{Taken, taken}
@@ -69,7 +69,7 @@ module _ {p : Plan} {room : ℕ} (t : Taken p room) where
       ∙ listed-none read (records frame) (records frame) (omega arith)
 
   -- what an input sends from th on is its cell, and zeros
-  sent-cell : (i : ℕ) → i < 4 → sentIn i (rowsAt (th p)) ≡ cellOf p i ++ replicate (records frame - th p - length (cellOf p i)) 0
+  sent-cell : (i : ℕ) → i < 4 → columnOf i (rowsAt (th p)) ≡ cellOf p i ++ replicate (records frame - th p - length (cellOf p i)) 0
   sent-cell i is =
       listed-map (λ (r : List ℕ). byteAt r i) read (th p) (records frame - th p)
       ∙ listed-as (cellOf p i) (λ k. byteAt (read k) i) (th p) (records frame - th p) (omega (arith, count, fits t i is)) each
@@ -87,9 +87,9 @@ module _ {p : Plan} {room : ℕ} (t : Taken p room) where
     where
       go : (b : Bool) → some (λ i. isCell (cellOf p i)) ≡ b → cellIn frame i ≡ cellOf p i
       go false gone =
-          ap (λ (rows : List (List ℕ)). asCell (sentIn i rows)) (without gone) ∙ sym (no-bytes (cellOf p i) (no-at (λ i. isCell (cellOf p i)) gone i is))
+          ap (λ (rows : List (List ℕ)). asCell (columnOf i rows)) (without gone) ∙ sym (no-bytes (cellOf p i) (no-at (λ i. isCell (cellOf p i)) gone i is))
       go true there =
-          ap (λ (rows : List (List ℕ)). asCell (sentIn i rows)) (with-cell there) ∙ ap asCell (sent-cell i is) ∙ as-cell p (cellOf p i) (records frame - th p - length (cellOf p i)) (good t i is)
+          ap (λ (rows : List (List ℕ)). asCell (columnOf i rows)) (with-cell there) ∙ ap asCell (sent-cell i is) ∙ as-cell p (cellOf p i) (records frame - th p - length (cellOf p i)) (good t i is)
 
 pub cells-read-back : CellsReadBack
 cells-read-back p buffer z i is =

@@ -11,7 +11,7 @@ use Rattle.text.proofs.Room.{stands, behind-it}
 use Rattle.plans.specs.Plan.{Plan, te}
 use Rattle.plans.specs.Refusal.{writeRefusal}
 use Rattle.frames.specs.Writing.{frameRecords, frameWrites}
-use Rattle.frames.specs.Reading.{sentBy, sentFrom, rowsFrom, fromHeader, sentIn, asCell, cellIn, cellWrites}
+use Rattle.frames.specs.Reading.{sentBy, sentFrom, rowsSent, fromHeader, columnOf, asCell, cellIn, cellWrites}
 use Rattle.frames.proofs.Lists.{listed-length}
 use Rattle.frames.proofs.Writes.{records-length}
 use Rattle.plans.proofs.Refusals.{taken}
@@ -38,9 +38,9 @@ module _ (p : Plan) (buffer : List ℕ) {n : ℕ} (is : n ≡ writeRefusal p (le
   frame-refused h = rw (ne-eqb _ _ (λ z. h (is ∙ z)))
 
 -- a cell, copied or too long
-module _ (frame : List ℕ) (i at end : ℕ) (header : fromHeader (rowsFrom frame 0) ≡ rowsFrom frame at) (ends : asCell (sentIn i (rowsFrom frame at)) ≡ sentFrom frame i at (end - at)) where
+module _ (frame : List ℕ) (i at end : ℕ) (header : fromHeader (rowsSent frame 0) ≡ rowsSent frame at) (ends : asCell (columnOf i (rowsSent frame at)) ≡ sentFrom frame i at (end - at)) where
   cell : cellIn frame i ≡ sentFrom frame i at (end - at)
-  cell = ap (λ (rows : List (List ℕ)). asCell (sentIn i rows)) header ∙ ends
+  cell = ap (λ (rows : List (List ℕ)). asCell (columnOf i rows)) header ∙ ends
 
   pub cell-bytes : end - at ≡ length (cellIn frame i)
   cell-bytes = sym (ap length cell ∙ listed-length (sentBy frame i) at (end - at))

@@ -18,7 +18,7 @@ use Rattle.records.specs.Record.{byteAt, inputsFrom}
 use Rattle.places.specs.Capture.{records, inputsIn}
 use Rattle.places.proofs.Records.{record-past}
 use Rattle.frames.specs.Listed.{listed, trimmed}
-use Rattle.frames.specs.Reading.{sentBy, sentFrom, rowsFrom, fromHeader, sentIn, asCell, cellIn, cellWrites}
+use Rattle.frames.specs.Reading.{sentBy, sentFrom, rowsSent, fromHeader, columnOf, asCell, cellIn, cellWrites}
 use Rattle.frames.proofs.Lists.{listed-length, listed-next, listed-none, listed-last, listed-map, trimmed-zero, trimmed-end, trimmed-first}
 
 zero-at : (i : ℕ) → byteAt zeroRow i ≡ 0
@@ -68,7 +68,7 @@ module _ (frame : List ℕ) where
     f = sentBy frame i
 
     abbrev sent : List ℕ
-    sent = sentIn i (rowsFrom frame at)
+    sent = columnOf i (rowsSent frame at)
 
     column : sent ≡ sentFrom frame i at (records frame - at)
     column = listed-map (λ (r : List ℕ). byteAt r i) row at (records frame - at)

@@ -18,8 +18,8 @@ abbrev pub sentFrom : List ℕ → ℕ → ℕ → ℕ → List ℕ
 sentFrom frame i k n = listed (sentBy frame i) k n
 
 -- the bytes that the four inputs send, a row for each record from record k on
-abbrev pub rowsFrom : List ℕ → ℕ → List (List ℕ)
-rowsFrom frame k = listed (λ j. inputsIn frame j .bytes) k (records frame - k)
+abbrev pub rowsSent : List ℕ → ℕ → List (List ℕ)
+rowsSent frame k = listed (λ j. inputsIn frame j .bytes) k (records frame - k)
 
 -- the rows from th on, which is the first with an active bit on some input; none where there is none
 unfoldable pub fromHeader : List (List ℕ) → List (List ℕ)
@@ -27,8 +27,8 @@ fromHeader [] = []
 fromHeader (row ∷ rows) = cond (someActive row) (row ∷ rows) (fromHeader rows)
 
 -- what input i sends in them
-abbrev pub sentIn : ℕ → List (List ℕ) → List ℕ
-sentIn i rows = map (λ row. byteAt row i) rows
+abbrev pub columnOf : ℕ → List (List ℕ) → List ℕ
+columnOf i rows = map (λ row. byteAt row i) rows
 
 -- an active header, and the body behind it up to its last byte that is not zero; with another byte at th there is no cell
 abbrev pub asCell : List ℕ → List ℕ
@@ -36,7 +36,7 @@ asCell [] = []
 asCell (header ∷ body) = cond (active header) (header ∷ trimmed body) []
 
 abbrev pub cellIn : List ℕ → ℕ → List ℕ
-cellIn frame i = asCell (sentIn i (fromHeader (rowsFrom frame 0)))
+cellIn frame i = asCell (columnOf i (fromHeader (rowsSent frame 0)))
 
 -- the buffer: the cell at its start and the bytes beyond it stay; a buffer without room for all of the cell stays
 abbrev pub cellWrites : List ℕ → ℕ → List ℕ → List ℕ

@@ -3,11 +3,11 @@ ghost use mathlib.Core.Path.{_≡_};
 ghost use lib.ListN.{length};
 ghost use Prim.Native.Nat.{_-_, _≤_};
 ghost use Rattle.text.specs.Page.{page, Wrote};
-ghost use Rattle.frames.specs.Reading.{sentBy, sentFrom, rowsFrom, fromHeader, sentIn, asCell, cellIn, cellWrites};
+ghost use Rattle.frames.specs.Reading.{sentBy, sentFrom, rowsSent, fromHeader, columnOf, asCell, cellIn, cellWrites};
 
 // The first record in which some input sends an active bit, by which a waiting fabric would route; or the number of records.
 fn header_record(frame: &[u8]) -> usize
-    ensures { λ r. ⌜ fromHeader (rowsFrom (now (frame .entry)) 0) ≡ rowsFrom (now (frame .entry)) r ⌝ }
+    ensures { λ r. ⌜ fromHeader (rowsSent (now (frame .entry)) 0) ≡ rowsSent (now (frame .entry)) r ⌝ }
 {
     let n = frame.len() / 5;
     let mut k: usize = 0;
@@ -32,7 +32,7 @@ fn sent_at(frame: &[u8], k: usize, input: usize) -> u8
 
 // The record behind the cell whose header would be in record `at`; `at` itself where there is no cell.
 fn cell_end(frame: &[u8], at: usize, input: usize) -> usize
-    ensures { λ r. ⌜ (at ≤ r) × (asCell (sentIn input (rowsFrom (now (frame .entry)) at)) ≡ sentFrom (now (frame .entry)) input at (r - at)) ⌝ }
+    ensures { λ r. ⌜ (at ≤ r) × (asCell (columnOf input (rowsSent (now (frame .entry)) at)) ≡ sentFrom (now (frame .entry)) input at (r - at)) ⌝ }
 {
     if sent_at(frame, at, input) % 2 != 1 {
         return at;

@@ -25,15 +25,15 @@ pub record Words : Type 0 where
   pub text : List ℕ
   pub written : Bool
 
-abbrev pub records : List ℕ → Words
-records text = record { text = text; written = true }
+abbrev pub asRecords : List ℕ → Words
+asRecords text = record { text = text; written = true }
 
-abbrev pub lastly : List ℕ → Words
-lastly text = record { text = text; written = false }
+abbrev pub asLine : List ℕ → Words
+asLine text = record { text = text; written = false }
 
 unfoldable pub answerTo : List ℕ → ℕ → ℕ → Words
 answerTo order k room =
-    cond (eqb (length order) 0) (lastly [])
-    (cond (ltb (length order) (orderSize order)) (lastly (lineAbout (ascii "cut short") k))
-    (cond (eqb (writeRefusal (planOf order) room) 0) (records (frameRecords (planOf order)))
-    (lastly (lineAbout (refusedText (writeRefusal (planOf order) room)) k))))
+    cond (eqb (length order) 0) (asLine [])
+    (cond (ltb (length order) (orderSize order)) (asLine (lineAbout (ascii "cut short") k))
+    (cond (eqb (writeRefusal (planOf order) room) 0) (asRecords (frameRecords (planOf order)))
+    (asLine (lineAbout (refusedText (writeRefusal (planOf order) room)) k))))

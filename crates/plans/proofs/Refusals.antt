@@ -8,7 +8,7 @@ use borrow.Author.Tests.{lt-ltb, le-ltb, ltb-false}
 use Rattle.states.specs.State.{_when_otherwise_}
 use Rattle.routing.proofs.Fours.{or-left, or-right, no-at}
 use Rattle.plans.specs.Plan.{Plan, cellOf, th, te}
-use Rattle.plans.specs.Refusal.{outside, outsideLimits, headerInactive, bodyWrong, tooLate, inSome, noRoom, writeRefusal}
+use Rattle.plans.specs.Refusal.{outside, offLimits, headerInactive, bodyWrong, tooLate, inSome, noRoom, writeRefusal}
 
 -- what is not outside the limits is within them
 pub record Within (gap cycles : ℕ) : Type 0 where
@@ -17,7 +17,7 @@ pub record Within (gap cycles : ℕ) : Type 0 where
   pub cycles-some : gap + 2 ≤ cycles
   pub cycles-few : cycles ≤ 4096
 
-pub within : (gap cycles : ℕ) → outsideLimits gap cycles ≡ false → Within gap cycles
+pub within : (gap cycles : ℕ) → offLimits gap cycles ≡ false → Within gap cycles
 within gap cycles e =
     let g = or-left (outside 1 16 gap) (outside (gap + 2) 4096 cycles) e in
     let c = or-right (outside 1 16 gap) (outside (gap + 2) 4096 cycles) e in
@@ -29,11 +29,11 @@ within gap cycles e =
     }
 
 module _ (p : Plan) (room : ℕ) where
-  pub number-20 : outsideLimits (p .gap) (p .cycles) ≡ true → 20 ≡ writeRefusal p room
+  pub number-20 : offLimits (p .gap) (p .cycles) ≡ true → 20 ≡ writeRefusal p room
   unfolding writeRefusal
   number-20 h = rw h
 
-  module _ (no-20 : outsideLimits (p .gap) (p .cycles) ≡ false) where
+  module _ (no-20 : offLimits (p .gap) (p .cycles) ≡ false) where
     pub number-21 : inSome headerInactive (p .cells) ≡ true → 21 ≡ writeRefusal p room
     unfolding writeRefusal
     number-21 h = rw (no-20, h)
@@ -68,9 +68,9 @@ pub record Taken (p : Plan) (room : ℕ) : Type 0 where
 pub taken : (p : Plan) (room : ℕ) → writeRefusal p room ≡ 0 → Taken p room
 unfolding writeRefusal
 taken p room z =
-    go (outsideLimits (p .gap) (p .cycles)) (inSome headerInactive (p .cells)) (inSome bodyWrong (p .cells)) (inSome (tooLate (th p) (te p)) (p .cells)) (noRoom (p .cycles) room) refl refl refl refl refl z
+    go (offLimits (p .gap) (p .cycles)) (inSome headerInactive (p .cells)) (inSome bodyWrong (p .cells)) (inSome (tooLate (th p) (te p)) (p .cells)) (noRoom (p .cycles) room) refl refl refl refl refl z
   where
-    go : (a b c d e : Bool) → outsideLimits (p .gap) (p .cycles) ≡ a → inSome headerInactive (p .cells) ≡ b → inSome bodyWrong (p .cells) ≡ c
+    go : (a b c d e : Bool) → offLimits (p .gap) (p .cycles) ≡ a → inSome headerInactive (p .cells) ≡ b → inSome bodyWrong (p .cells) ≡ c
         → inSome (tooLate (th p) (te p)) (p .cells) ≡ d → noRoom (p .cycles) room ≡ e
         → (20 when a otherwise 21 when b otherwise 22 when c otherwise 23 when d otherwise 24 when e otherwise 0) ≡ 0 → Taken p room
     go true b c d e pa pb pc pd pe z = absurd (omega arith)

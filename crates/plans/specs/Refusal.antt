@@ -15,8 +15,8 @@ abbrev pub outside : ℕ → ℕ → ℕ → Bool
 outside low high n = ltb n low || ltb high n
 
 -- 20: a gap not from 1 to 16, or a frame not from gap+2 to 4,096 cycles long
-abbrev pub outsideLimits : ℕ → ℕ → Bool
-outsideLimits gap cycles = outside 1 16 gap || outside (gap + 2) 4096 cycles
+abbrev pub offLimits : ℕ → ℕ → Bool
+offLimits gap cycles = outside 1 16 gap || outside (gap + 2) 4096 cycles
 
 -- 21: a header that is not active
 abbrev pub headerInactive : List ℕ → Bool
@@ -43,7 +43,7 @@ noRoom cycles room = ltb room (5 * cycles)
 
 unfoldable pub writeRefusal : Plan → ℕ → ℕ
 writeRefusal p room =
-    20 when outsideLimits (p .gap) (p .cycles) otherwise
+    20 when offLimits (p .gap) (p .cycles) otherwise
     21 when inSome headerInactive (p .cells) otherwise
     22 when inSome bodyWrong (p .cells) otherwise
     23 when inSome (tooLate (th p) (te p)) (p .cells) otherwise

@@ -3,10 +3,10 @@ ghost use mathlib.Core.Path.{_≡_};
 ghost use mathlib.Core.List.{[], _∷_};
 ghost use Prim.Native.Nat.{_+_};
 ghost use Rattle.plans.specs.Plan.{planned};
-ghost use Rattle.plans.specs.Refusal.{outsideLimits, headerInactive, bodyWrong, tooLate, inSome, writeRefusal};
+ghost use Rattle.plans.specs.Refusal.{offLimits, headerInactive, bodyWrong, tooLate, inSome, writeRefusal};
 
 fn outside_limits(gap: u8, cycles: u16) -> bool
-    ensures { λ r. ⌜ r ≡ outsideLimits gap cycles ⌝ }
+    ensures { λ r. ⌜ r ≡ offLimits gap cycles ⌝ }
 {
     let shortest = gap as u16 + 2;
     ((gap < 1) | (16 < gap)) | ((cycles < shortest) | (4096 < cycles))

@@ -6,13 +6,13 @@ use Rattle.routing.specs.Header.{someActive}
 use Rattle.fabric.specs.declared.cycle.Inputs.{Inputs}
 use Rattle.records.specs.Record.{inputsFrom}
 use Rattle.places.specs.Capture.{records, inputsIn}
-use Rattle.frames.specs.Reading.{rowsFrom, fromHeader}
+use Rattle.frames.specs.Reading.{rowsSent, fromHeader}
 use Rattle.frames.proofs.Searches.{found, passed, none}
 use Rattle.frames.proofs.reading.header_record.Statement.{statement}
 use Rattle.frames.proofs.reading.header_record.Tie as tie
 
 abbrev Inv-loop : tie.InvT-loop
-Inv-loop frame n k₀ k = fromHeader (rowsFrom frame 0) ≡ fromHeader (rowsFrom frame k)
+Inv-loop frame n k₀ k = fromHeader (rowsSent frame 0) ≡ fromHeader (rowsSent frame k)
 
 abbrev μ-loop : tie.MeasureT-loop
 μ-loop frame n k₀ k = n - k
