@@ -16,9 +16,12 @@ use Rattle.runs.specs.Run.{Run, FromReset, NoneActiveAt, FrameStartAt, NoFrameS
 use Rattle.runs.specs.Frame.{Frame, NoneActiveBefore, NoneActiveFrom, ActiveFrame, InactiveFrame}
 use Rattle.runs.proofs.Stretches.{zeros-before-reset}
 use Rattle.plans.specs.Plan.{Plan, cellOf, isCell, th, te, inputsOf}
-use Rattle.plans.proofs.Refusals.{Taken, taken}
+use Rattle.plans.proofs.Refusals.{Taken, taken, room-alike}
 use Rattle.delivery.proofs.Takings.{row, good, quiet-before, silent, loud, quiet-end}
-use Rattle.delivery.specs.Written.{Writable, hasCell, WrittenAt, BehindFrame, Follows, InPlace, WellFormed, WrittenFrames}
+use Rattle.delivery.specs.Written.{AllWritable, hasCell, WrittenAt, BehindFrame, Follows, InPlace, WellFormed, WrittenFrames}
+
+pub all-writable : AllWritable
+all-writable p room z = room-alike p room (5 * te p) z (omega arith)
 
 -- cycle t of a run, counted from cycle s on
 within : (s t : ℕ) → s ≤ t → s + (t - s) ≡ t

@@ -19,6 +19,10 @@ use Rattle.frames.specs.Writing.{frameRecords}
 abbrev pub Writable : Plan → Type 0
 Writable p = writeRefusal p (5 * te p) ≡ 0
 
+-- What is not refused in some buffer is writable, so that all that follows is said of every frame that a call has written.
+abbrev pub AllWritable : Type 0
+AllWritable = (p : Plan) (room : ℕ) → writeRefusal p room ≡ 0 → Writable p
+
 -- some input has a cell
 abbrev pub hasCell : Plan → Bool
 hasCell p = some (λ i. isCell (cellOf p i))

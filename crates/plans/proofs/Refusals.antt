@@ -1,6 +1,6 @@
 -- The limits, and the order of the writer's refusals. Assumes nothing.
 use mathlib.Core.Bool.{Bool, true, false, _||_}
-use mathlib.Core.Path.{_≡_, refl}
+use mathlib.Core.Path.{_≡_, refl, sym}
 use Prim.Native.Nat.{ℕ, _+_, _*_, _<_, _≤_}
 use native.Mathlib.Omega.{arith}
 use lib.Dec.{ltb}
@@ -57,7 +57,30 @@ module _ (p : Plan) (room : ℕ) where
           unfolding writeRefusal
           no-number h = rw (no-20, no-21, no-22, no-23, le-ltb _ _ h)
 
--- what a frame that is not refused has
+-- the tests that a frame passes which is not refused
+record Passes (p : Plan) (room : ℕ) : Type 0 where
+  pub limits : offLimits (p .gap) (p .cycles) ≡ false
+  pub headers : inSome headerInactive (p .cells) ≡ false
+  pub bodies : inSome bodyWrong (p .cells) ≡ false
+  pub in-time : inSome (tooLate (th p) (te p)) (p .cells) ≡ false
+  pub room-enough : 5 * te p ≤ room
+
+passes : (p : Plan) (room : ℕ) → writeRefusal p room ≡ 0 → Passes p room
+unfolding writeRefusal
+passes p room z =
+    go (offLimits (p .gap) (p .cycles)) (inSome headerInactive (p .cells)) (inSome bodyWrong (p .cells)) (inSome (tooLate (th p) (te p)) (p .cells)) (noRoom (p .cycles) room) refl refl refl refl refl z
+  where
+    go : (a b c d e : Bool) → offLimits (p .gap) (p .cycles) ≡ a → inSome headerInactive (p .cells) ≡ b → inSome bodyWrong (p .cells) ≡ c
+        → inSome (tooLate (th p) (te p)) (p .cells) ≡ d → noRoom (p .cycles) room ≡ e
+        → (20 when a otherwise 21 when b otherwise 22 when c otherwise 23 when d otherwise 24 when e otherwise 0) ≡ 0 → Passes p room
+    go true b c d e pa pb pc pd pe z = absurd (omega arith)
+    go false true c d e pa pb pc pd pe z = absurd (omega arith)
+    go false false true d e pa pb pc pd pe z = absurd (omega arith)
+    go false false false true e pa pb pc pd pe z = absurd (omega arith)
+    go false false false false true pa pb pc pd pe z = absurd (omega arith)
+    go false false false false false pa pb pc pd pe z = record { limits = pa; headers = pb; bodies = pc; in-time = pd; room-enough = ltb-false _ _ pe }
+
+-- and so what it has
 pub record Taken (p : Plan) (room : ℕ) : Type 0 where
   pub limits : Within (p .gap) (p .cycles)
   pub headers : (i : ℕ) → i < 4 → headerInactive (cellOf p i) ≡ false
@@ -66,22 +89,17 @@ pub record Taken (p : Plan) (room : ℕ) : Type 0 where
   pub room-enough : 5 * te p ≤ room
 
 pub taken : (p : Plan) (room : ℕ) → writeRefusal p room ≡ 0 → Taken p room
-unfolding writeRefusal
 taken p room z =
-    go (offLimits (p .gap) (p .cycles)) (inSome headerInactive (p .cells)) (inSome bodyWrong (p .cells)) (inSome (tooLate (th p) (te p)) (p .cells)) (noRoom (p .cycles) room) refl refl refl refl refl z
-  where
-    go : (a b c d e : Bool) → offLimits (p .gap) (p .cycles) ≡ a → inSome headerInactive (p .cells) ≡ b → inSome bodyWrong (p .cells) ≡ c
-        → inSome (tooLate (th p) (te p)) (p .cells) ≡ d → noRoom (p .cycles) room ≡ e
-        → (20 when a otherwise 21 when b otherwise 22 when c otherwise 23 when d otherwise 24 when e otherwise 0) ≡ 0 → Taken p room
-    go true b c d e pa pb pc pd pe z = absurd (omega arith)
-    go false true c d e pa pb pc pd pe z = absurd (omega arith)
-    go false false true d e pa pb pc pd pe z = absurd (omega arith)
-    go false false false true e pa pb pc pd pe z = absurd (omega arith)
-    go false false false false true pa pb pc pd pe z = absurd (omega arith)
-    go false false false false false pa pb pc pd pe z = record {
-      limits = within _ _ pa;
-      headers = no-at (λ i. headerInactive (cellOf p i)) pb;
-      bodies = no-at (λ i. bodyWrong (cellOf p i)) pc;
-      in-time = no-at (λ i. tooLate (th p) (te p) (cellOf p i)) pd;
-      room-enough = ltb-false _ _ pe;
+    let t = passes p room z in
+    record {
+      limits = within _ _ (t .limits);
+      headers = no-at (λ i. headerInactive (cellOf p i)) (t .headers);
+      bodies = no-at (λ i. bodyWrong (cellOf p i)) (t .bodies);
+      in-time = no-at (λ i. tooLate (th p) (te p) (cellOf p i)) (t .in-time);
+      room-enough = t .room-enough;
     }
+
+-- what is not refused in one buffer is refused in none that has room
+pub room-alike : (p : Plan) (room other : ℕ) → writeRefusal p room ≡ 0 → 5 * te p ≤ other → writeRefusal p other ≡ 0
+room-alike p room other z h =
+    let t = passes p room z in sym (no-number p other (t .limits) (t .headers) (t .bodies) (t .in-time) h)
