@@ -1,7 +1,7 @@
 -- A replay asked for by a payload, by either engine. Assumes nothing.
-use mathlib.Core.Path.{_≡_, ap, _∙_}
+use mathlib.Core.Path.{_≡_, _∙_}
 use mathlib.Core.List.{List}
-use Prim.Native.Nat.{ℕ, _-_, _≤_}
+use Prim.Native.Nat.{ℕ, _-_}
 use lib.ListN.{length, take, drop}
 use Rattle.text.specs.Page.{Page, Wrote}
 use Rattle.text.proofs.Lists.{part-all}

@@ -3,10 +3,8 @@ use mathlib.Core.Path.{_≡_, refl, sym, ap, subst, _∙_}
 use mathlib.Core.List.{List, [], _∷_, _++_, append-assoc}
 use mathlib.Core.Logic.{inl, inr}
 use Prim.Native.Nat.{ℕ, zero, suc, _+_, _*_, _<_}
-use native.Mathlib.Nat.{add-zero}
 use native.Mathlib.Omega.{arith}
 use lib.ListN.{length, length-append}
-use Rattle.fabric.specs.Cycle.{Machine}
 use Rattle.fabric.specs.Run.{resetMachine, runOf}
 use Rattle.places.specs.Capture.{inputsIn}
 use Rattle.runs.specs.Run.{Run, runFrom, FrameStartAt}

@@ -1,13 +1,13 @@
 -- What the heads show of a frame. Assumes nothing.
-use mathlib.Core.Bool.{Bool, true, false, _&&_}
-use mathlib.Core.Path.{_≡_, refl, sym, ap, subst, _∙_}
-use mathlib.Core.List.{List, [], _∷_, _++_}
+use mathlib.Core.Bool.{true}
+use mathlib.Core.Path.{_≡_, refl, sym, ap, _∙_}
+use mathlib.Core.List.{List, [], _∷_}
 use mathlib.Core.Logic.{_↔_}
-use Prim.Native.Nat.{ℕ, zero, suc, _+_, _-_, _*_, _<_, _≤_}
+use Prim.Native.Nat.{ℕ, suc, _+_, _-_, _*_, _<_, _≤_}
 use native.Mathlib.Omega.{arith}
-use lib.ListN.{length, getD, replicate}
+use lib.ListN.{length, getD}
 use Rattle.routing.specs.Header.{active, asks, headerOf}
-use Rattle.routing.proofs.Fours.{at-four, and-left, not-both, no-unless, yes-unless}
+use Rattle.routing.proofs.Fours.{at-four, not-both, yes-unless}
 use Rattle.records.specs.Record.{byteAt}
 use Rattle.runs.specs.Run.{Run, sent, head, headersAt}
 use Rattle.runs.specs.Routing.{Asks, AskedFor, Wins}

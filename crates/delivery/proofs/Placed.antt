@@ -1,5 +1,5 @@
 -- Written records, found again in bytes. Assumes nothing.
-use mathlib.Core.Path.{_≡_, refl, sym, ap, _∙_}
+use mathlib.Core.Path.{_≡_, sym, ap, _∙_}
 use mathlib.Core.List.{List, [], _∷_, _++_, append-assoc, append-nil}
 use mathlib.Core.Logic.{⊎-elim}
 use Prim.Native.Nat.{ℕ, zero, suc, _+_, _*_, _<_}
@@ -9,7 +9,7 @@ use lib.ListN.{length, length-append}
 use lib.Seq.{getD-append-add}
 use Rattle.fabric.specs.declared.cycle.Inputs.{Inputs}
 use Rattle.records.specs.Record.{byteAt, recordOf, inputsFrom}
-use Rattle.places.specs.Capture.{records, fiveAt, recordAt, inputsIn}
+use Rattle.places.specs.Capture.{recordAt, inputsIn}
 use Rattle.places.proofs.Records.{record-there}
 use Rattle.plans.specs.Plan.{Plan, te, inputsOf}
 use Rattle.frames.specs.Writing.{recordsOf, frameRecords}

@@ -2,23 +2,22 @@
 use mathlib.Core.Bool.{Bool, true, false, cond, not}
 use mathlib.Core.Path.{_≡_, refl, sym, ap, _∙_}
 use mathlib.Core.List.{List, [], _∷_, _++_, append-nil}
-use Prim.Native.Nat.{ℕ, zero, suc, _+_, _-_, _*_, _<_, _≤_}
+use Prim.Native.Nat.{ℕ, zero, suc, _+_, _-_, _*_, _<_}
 use native.Mathlib.Nat.{zero-add}
 use native.Mathlib.Omega.{arith}
 use lib.ListN.{length, drop, replicate, take}
 use lib.Seq.{take-at}
 use borrow.Author.Tests.{eq-eqb, ne-eqb}
 use Rattle.routing.specs.Four.{some}
-use Rattle.routing.specs.Header.{active, someActive}
+use Rattle.routing.specs.Header.{someActive}
 use Rattle.routing.proofs.Fours.{at-four, no-at}
 use Rattle.fabric.specs.declared.cycle.Inputs.{Inputs}
 use Rattle.records.specs.Record.{byteAt}
 use Rattle.places.specs.Capture.{records, inputsIn}
 use Rattle.frames.specs.Listed.{listed, trimmed}
 use Rattle.plans.specs.Plan.{Plan, cellOf, isCell, th, te, sends}
-use Rattle.plans.specs.Refusal.{writeRefusal}
 use Rattle.frames.specs.Writing.{frameRecords, frameWrites}
-use Rattle.frames.specs.Reading.{rowsSent, fromHeader, columnOf, asCell, cellIn}
+use Rattle.frames.specs.Reading.{fromHeader, columnOf, asCell, cellIn}
 use Rattle.delivery.specs.ReadBack.{CellsReadBack}
 use Rattle.frames.proofs.Lists.{listed-none, listed-map, listed-as, trimmed-back}
 use Rattle.plans.proofs.Refusals.{Taken, taken}

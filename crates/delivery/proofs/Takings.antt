@@ -1,18 +1,18 @@
 -- What a frame that is not refused has in each cell, and what it sends. Assumes nothing.
-use mathlib.Core.Bool.{Bool, true, false, not, _&&_, _||_}
+use mathlib.Core.Bool.{Bool, true, false, _&&_}
 use mathlib.Core.Path.{_≡_, refl, sym, ap, _∙_}
 use mathlib.Core.List.{List, [], _∷_}
-use Prim.Native.Nat.{ℕ, zero, suc, _+_, _-_, _<_, _≤_}
+use Prim.Native.Nat.{ℕ, suc, _+_, _-_, _<_, _≤_}
 use native.Mathlib.Omega.{arith}
-use lib.Dec.{eqb, leb, ltb}
-use lib.ListN.{length, getD, List·getD-eq-default}
+use lib.Dec.{ltb}
+use lib.ListN.{length, List·getD-eq-default}
 use borrow.Author.Tests.{ltb-true, ltb-false, leb-false, eqb-true, eqb-false, not-false}
 use Rattle.routing.specs.Four.{four, some}
 use Rattle.routing.specs.Header.{active, someActive}
 use Rattle.routing.proofs.Fours.{or-left, or-right, none-of, no-at, at-four, not-both, yes-unless, no-unless}
 use Rattle.records.specs.Record.{byteAt}
 use Rattle.plans.specs.Plan.{Plan, cellOf, isCell, headerIn, bodyIn, th, te, sends}
-use Rattle.plans.specs.Refusal.{outside, headerInactive, bodyWrong, tooLate, endsInZero}
+use Rattle.plans.specs.Refusal.{outside, endsInZero}
 use Rattle.plans.proofs.Refusals.{Taken}
 use Rattle.plans.proofs.Cells.{body-length}
 use Rattle.frames.proofs.Writes.{quiet, sending}

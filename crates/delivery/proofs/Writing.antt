@@ -1,19 +1,17 @@
 -- Written frames meet the definition of a frame. Assumes nothing.
 use mathlib.Core.Bool.{Bool, true, false}
 use mathlib.Core.Path.{_≡_, refl, sym, ap, subst, _∙_}
-use mathlib.Core.List.{List, [], _∷_, _++_, append-assoc}
-use mathlib.Core.Logic.{⊎-elim, inl, inr}
-use Prim.Native.Nat.{ℕ, zero, suc, _+_, _-_, _*_, _<_, _≤_}
+use mathlib.Core.Logic.{⊎-elim}
+use Prim.Native.Nat.{ℕ, suc, _+_, _-_, _*_, _<_, _≤_}
 use native.Mathlib.Nat.{add-zero}
 use native.Mathlib.Omega.{arith}
 use lib.Dec.{leb}
-use lib.ListN.{length}
 use borrow.Author.Tests.{ne-eqb, leb-true, leb-false}
 use Rattle.routing.specs.Header.{someActive}
-use Rattle.routing.proofs.Fours.{not-both, yes-unless, no-unless, none-of}
+use Rattle.routing.proofs.Fours.{not-both, no-unless, none-of}
 use Rattle.fabric.specs.declared.cycle.Inputs.{Inputs}
-use Rattle.runs.specs.Run.{Run, FromReset, NoneActiveAt, FrameStartAt, NoFrameStartAt}
-use Rattle.runs.specs.Frame.{Frame, NoneActiveBefore, NoneActiveFrom, ActiveFrame, InactiveFrame}
+use Rattle.runs.specs.Run.{Run, NoneActiveAt, FrameStartAt, NoFrameStartAt}
+use Rattle.runs.specs.Frame.{Frame, NoneActiveBefore, NoneActiveFrom}
 use Rattle.runs.proofs.Stretches.{zeros-before-reset}
 use Rattle.plans.specs.Plan.{Plan, cellOf, isCell, th, te, inputsOf}
 use Rattle.plans.proofs.Refusals.{Taken, taken, room-alike}

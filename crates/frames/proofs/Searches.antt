@@ -1,25 +1,22 @@
 -- The search for the header, and for the end of a cell. Assumes nothing.
 use mathlib.Core.Bool.{Bool, true, false, cond}
 use mathlib.Core.Path.{_≡_, refl, sym, ap, _∙_}
-use mathlib.Core.List.{List, [], _∷_, _++_, map}
+use mathlib.Core.List.{List, [], _∷_}
 use mathlib.Core.Logic.{⊎-elim}
 use Prim.Native.Nat.{ℕ, zero, suc, _+_, _-_, _%_, _<_, _≤_}
 use native.Mathlib.Nat.{eq-or-lt-of-le}
 use native.Mathlib.Numerals.{add-one}
 use native.Mathlib.Omega.{arith}
-use lib.Dec.{eqb, ltb, leb}
-use lib.ListN.{length, getD, drop}
-use borrow.Author.Tests.{ne-eqb, eq-eqb, ltb-true, ltb-false, le-leb, lt-leb}
+use lib.Dec.{ltb}
+use borrow.Author.Tests.{ne-eqb, eq-eqb, ltb-true, ltb-false}
 use Rattle.routing.specs.Header.{active, someActive}
 use Rattle.states.specs.State.{zeroRow}
-use Rattle.text.specs.Page.{page, Wrote}
-use Rattle.text.proofs.Room.{behind-it}
 use Rattle.records.specs.Record.{byteAt, inputsFrom}
 use Rattle.places.specs.Capture.{records, inputsIn}
 use Rattle.places.proofs.Records.{record-past}
 use Rattle.frames.specs.Listed.{listed, trimmed}
-use Rattle.frames.specs.Reading.{sentBy, sentFrom, rowsSent, fromHeader, columnOf, asCell, cellIn, cellWrites}
-use Rattle.frames.proofs.Lists.{listed-length, listed-next, listed-none, listed-last, listed-map, trimmed-zero, trimmed-end, trimmed-first}
+use Rattle.frames.specs.Reading.{sentBy, sentFrom, rowsSent, fromHeader, columnOf, asCell}
+use Rattle.frames.proofs.Lists.{listed-next, listed-none, listed-last, listed-map, trimmed-zero, trimmed-end, trimmed-first}
 
 zero-at : (i : ℕ) → byteAt zeroRow i ≡ 0
 zero-at zero = refl

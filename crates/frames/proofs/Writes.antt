@@ -1,17 +1,15 @@
 -- The records of a frame, one after the other, and the buffer that they stand in. Assumes nothing.
-use mathlib.Core.Bool.{Bool, true, false}
 use mathlib.Core.Path.{_≡_, refl, sym, ap, _∙_}
 use mathlib.Core.List.{List, [], _∷_, _++_}
 use Prim.Native.Nat.{ℕ, _+_, _-_, _*_, _<_, _≤_, suc, zero}
 use native.Mathlib.Numerals.{add-one}
 use native.Mathlib.Omega.{arith}
 use lib.Dec.{eqb}
-use lib.ListN.{length, length-append, drop}
+use lib.ListN.{length, length-append}
 use borrow.Author.Tests.{lt-ltb, le-ltb}
 use Rattle.routing.proofs.Equal.{row-of}
-use Rattle.text.specs.Page.{Page, page, Wrote}
+use Rattle.text.specs.Page.{Page, Wrote}
 use Rattle.text.proofs.Pages.{_then_, spelt, nothing}
-use Rattle.fabric.specs.declared.cycle.Inputs.{Inputs}
 use Rattle.records.specs.Record.{byteAt, recordOf}
 use Rattle.plans.specs.Plan.{Plan, sentOf, sends, inputsOf}
 use Rattle.frames.specs.Writing.{recordsOf}

@@ -1,6 +1,6 @@
 -- What is said to an order, case by case. Assumes nothing.
 use mathlib.Core.Bool.{Bool, true, false}
-use mathlib.Core.Path.{_≡_, refl, sym, ap, subst, _∙_}
+use mathlib.Core.Path.{_≡_, sym, ap, subst, _∙_}
 use mathlib.Core.List.{List, []}
 use Prim.Native.Nat.{ℕ, _*_, _<_, _≤_}
 use native.Mathlib.Omega.{arith}
@@ -9,7 +9,6 @@ use borrow.Author.Tests.{eq-eqb, ne-eqb, lt-ltb, le-ltb}
 use Rattle.text.specs.Ascii.{ascii}
 use Rattle.text.specs.Page.{Page, page, Wrote}
 use Rattle.text.proofs.Pages.{spelt}
-use Rattle.plans.specs.Plan.{te}
 use Rattle.plans.specs.Refusal.{writeRefusal}
 use Rattle.frames.specs.Writing.{frameRecords, frameWrites}
 use Rattle.frames.proofs.Buffers.{frame-stands, frame-refused}

@@ -1,5 +1,3 @@
-use mathlib.Core.Path.{_≡_}
-use native.Mathlib.Omega.{arith}
 use borrow.Author.Needs.{needs}
 use Rattle.frames.proofs.Buffers.{cell-bytes, cell-copied, cell-left}
 use Rattle.frames.proofs.reading.read_cell.Statement.{statement}
