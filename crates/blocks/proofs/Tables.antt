@@ -9,7 +9,7 @@ use native.Mathlib.Omega.{arith}
 use lib.Dec.{lit<}
 use lib.ListN.{length}
 use Rattle.routing.proofs.Masks.{bit-le}
-use Rattle.gates.specs.Word.{rightCount, wrong, late}
+use Rattle.words.specs.Word.{rightCount, wrong, late}
 use Rattle.gates.specs.Evaluation.{outsideLimits, fault, firstFault, done, valueOf, evaluated}
 use Rattle.gates.proofs.Limits.{neither, passed}
 use Rattle.gates.proofs.Values.{evaluated-value}

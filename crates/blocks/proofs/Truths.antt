@@ -11,7 +11,7 @@ use Rattle.routing.proofs.Tests.{flag, flags, everywhere, beq→eq}
 use Rattle.routing.proofs.Fours.{row, at-four}
 use Rattle.routing.proofs.Turns.{turn-agree}
 use Rattle.fabric.specs.Cycle.{waitingAfter, shutAfter}
-use Rattle.gates.specs.Word.{made, gate}
+use Rattle.words.specs.Word.{made, gate}
 use Rattle.gates.specs.Evaluation.{earlyRefusal, netsAfter, valueOf}
 use Rattle.blocks.specs.Lines.{lines}
 use Rattle.blocks.specs.Decode.{decoded}

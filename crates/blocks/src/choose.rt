@@ -27,5 +27,5 @@ pub fn chosen(bits: [bool; 4], lets: [bool; 4]) -> bool
             lets[3],
         ),
     );
-    gates::net(v, 10)
+    words::net(v, 10)
 }

@@ -23,9 +23,9 @@ pub(crate) fn four_nets(v: u64, a: u32, b: u32, c: u32, d: u32) -> [bool; 4]
     ensures { λ r. ⌜ r ≡ fourNets v a b c d ⌝ }
 {
     [
-        gates::net(v, a),
-        gates::net(v, b),
-        gates::net(v, c),
-        gates::net(v, d),
+        words::net(v, a),
+        words::net(v, b),
+        words::net(v, c),
+        words::net(v, d),
     ]
 }

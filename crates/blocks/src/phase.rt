@@ -35,7 +35,7 @@ pub fn phased(waiting: bool, start: bool, active: [bool; 4]) -> Timing
         ),
     );
     Timing {
-        routing: gates::net(v, 7),
-        waiting: gates::net(v, 10),
+        routing: words::net(v, 7),
+        waiting: words::net(v, 10),
     }
 }

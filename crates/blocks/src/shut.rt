@@ -29,5 +29,5 @@ pub fn shut_next(shut: bool, start: bool, routing: bool, remain: [bool; 4]) -> b
             false,
         ),
     );
-    gates::net(v, 11)
+    words::net(v, 11)
 }

@@ -57,8 +57,8 @@ pub fn turned(remain: [bool; 4], low: bool, high: bool, routing: bool) -> Holder
         ),
     );
     Holder {
-        low: gates::net(v, 31),
-        high: gates::net(v, 30),
+        low: words::net(v, 31),
+        high: words::net(v, 30),
     }
 }
 

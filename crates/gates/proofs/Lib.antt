@@ -1,5 +1,3 @@
-pub mod Counts
-pub mod Bits
 pub mod Limits
 pub mod Loops
 pub mod Meaning

@@ -8,7 +8,7 @@ use native.Mathlib.Numerals.{add-one}
 use lib.ListN.{length, drop, getD, drop-of-length-le}
 use lib.Seq.{drop-cons}
 use Rattle.routing.specs.Four.{bit}
-use Rattle.gates.specs.Word.{gate, wrong, late}
+use Rattle.words.specs.Word.{gate, wrong, late}
 use Rattle.gates.specs.Evaluation.{netsAfter, fault, firstFault}
 
 module _ (ws : List ℕ) (m x : ℕ) where

@@ -12,9 +12,9 @@ use borrow.Author.Tests.{leb-false}
 use Rattle.routing.specs.Four.{bit, bitAt}
 use Rattle.routing.proofs.Equal.{two}
 use Rattle.gates.specs.declared.evaluator.Fault.{Fault}
-use Rattle.gates.specs.Word.{kindOf, countOf, fields, any, made, gate, wrong, late}
+use Rattle.words.specs.Word.{kindOf, countOf, fields, any, made, gate, wrong, late}
 use Rattle.gates.specs.Evaluation.{netsAfter, fault, firstFault}
-use Rattle.gates.proofs.Bits.{set-lt, bit-set, bit-below}
+use Rattle.words.proofs.Bits.{set-lt, bit-set, bit-below}
 use Rattle.gates.proofs.Limits.{neither}
 
 abbrev next : ℕ → ℕ → ℕ → ℕ

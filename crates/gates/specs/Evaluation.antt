@@ -8,7 +8,7 @@ use Rattle.routing.specs.Four.{bit}
 use Rattle.states.specs.State.{_when_otherwise_}
 use Rattle.gates.specs.declared.evaluator.Evaluated.{Evaluated}
 use Rattle.gates.specs.declared.evaluator.Fault.{Fault}
-use Rattle.gates.specs.Word.{gate, wrong, late}
+use Rattle.words.specs.Word.{gate, wrong, late}
 
 -- the nets after the gates of a list, where v holds the nets below n and the list's first gate makes net n
 unfoldable pub netsAfter : List ℕ → ℕ → ℕ → ℕ

@@ -4,7 +4,6 @@ ghost use Prim.Native.Nat.{_+_, _*_, _^_, _≤_, _<_};
 ghost use lib.ListN.{length};
 ghost use Rattle.routing.specs.Four.{bit};
 ghost use Rattle.gates.specs.Evaluation.{netsAfter, earlyRefusal, firstFault, refused, valueOf, evaluated};
-use super::word;
 
 // What the evaluator answers: the refusal's number or 0, the index of a bad word or 0, and the number whose bit n is net n.
 pub struct Evaluated {
@@ -44,13 +43,13 @@ fn first_fault(words: &[u32], inputs: usize) -> Fault
     let mut i: usize = 0;
     while i < words.len() {
         let w = words[i];
-        if word::wrong(w) {
+        if words::wrong(w) {
             return Fault {
                 number: 11,
                 index: i,
             };
         }
-        if word::late(w, (inputs + i) as u32) {
+        if words::late(w, (inputs + i) as u32) {
             return Fault {
                 number: 12,
                 index: i,
@@ -80,7 +79,7 @@ fn run(words: &[u32], inputs: usize, input: u64) -> u64
     let mut v = input;
     let mut i: usize = 0;
     while i < words.len() {
-        v = with_net(v, inputs + i, word::gate(words[i], v));
+        v = with_net(v, inputs + i, words::gate(words[i], v));
         i += 1;
     }
     v

@@ -1,6 +1,6 @@
 -- The worked table, computed. Assumes nothing.
 use Rattle.routing.specs.Turn.{inTurn}
-use Rattle.gates.specs.Word.{rightCount, wrong}
+use Rattle.words.specs.Word.{rightCount, wrong}
 use Rattle.promises.specs.Worked.{WorkedTable}
 
 pub worked-table : WorkedTable

@@ -8,7 +8,7 @@ use Rattle.routing.specs.Four.{four}
 use Rattle.routing.specs.Header.{asks, asksHigh}
 use Rattle.routing.specs.Port.{input}
 use Rattle.fabric.specs.Cycle.{holderAfter}
-use Rattle.gates.specs.Word.{kindOf, used, word, every, wrong}
+use Rattle.words.specs.Word.{kindOf, used, word, every, wrong}
 
 -- in which class an input asks for an output, if it asks
 pub data Class : Type 0 where

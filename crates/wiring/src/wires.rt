@@ -19,7 +19,7 @@ use routing::Input;
 fn bit(byte: u8, k: u32) -> bool
     ensures { λ r. ⌜ r ≡ bitAt k byte ⌝ }
 {
-    gates::net(byte as u64, k)
+    words::net(byte as u64, k)
 }
 
 // Bit k of each of four bytes.

@@ -1,6 +1,6 @@
 use mathlib.Core.Path.{sym, ap, subst}
 use Prim.Native.Nat.{ℕ, _+_, _^_, _<_}
-use Rattle.gates.proofs.Bits.{shifted, set-lt, set-fits}
+use Rattle.words.proofs.Bits.{shifted, set-lt, set-fits}
 use borrow.Author.Needs.{needs}
 use Rattle.gates.proofs.evaluator.with_net.Statement.{statement}
 use Rattle.gates.proofs.evaluator.with_net.Tie as tie

@@ -1,7 +1,7 @@
 use lib.Dec.{lit<}
-use Rattle.gates.proofs.Counts.{made-known, made-unknown, past-four, past-eight}
-use Rattle.gates.proofs.word.made.Statement.{statement}
-use Rattle.gates.proofs.word.made.Tie as tie
+use Rattle.words.proofs.Counts.{made-known, made-unknown, past-four, past-eight}
+use Rattle.words.proofs.word.made.Statement.{statement}
+use Rattle.words.proofs.word.made.Tie as tie
 
 returns : tie.Need-returns
 returns c = made-known _ _ _ _ _ _ 0 (lit< tt) (c .before .pre) (c .match .keys1)

@@ -3,11 +3,11 @@ use mathlib.Core.Path.{ap}
 use native.Mathlib.Nat.{mod-lt}
 use lib.Dec.{lit<}
 use Rattle.routing.proofs.Equal.{two}
-use Rattle.gates.specs.Word.{wrong}
-use Rattle.gates.proofs.Counts.{any-spare}
+use Rattle.words.specs.Word.{wrong}
+use Rattle.words.proofs.Counts.{any-spare}
 use borrow.Author.Needs.{needs}
-use Rattle.gates.proofs.word.wrong.Statement.{statement}
-use Rattle.gates.proofs.word.wrong.Tie as tie
+use Rattle.words.proofs.word.wrong.Statement.{statement}
+use Rattle.words.proofs.word.wrong.Tie as tie
 
 returns : tie.Need-returns
 unfolding wrong

@@ -1,7 +1,7 @@
-use Rattle.gates.proofs.Bits.{no-bit-64}
+use Rattle.words.proofs.Bits.{no-bit-64}
 use borrow.Author.Needs.{needs}
-use Rattle.gates.proofs.word.net.Statement.{statement}
-use Rattle.gates.proofs.word.net.Tie as tie
+use Rattle.words.proofs.word.net.Statement.{statement}
+use Rattle.words.proofs.word.net.Tie as tie
 
 returns-2 : tie.Need-returns-2
 returns-2 c = no-bit-64 (c .before .args .v) (c .before .args .n) (search needs) (c .if1 .left)

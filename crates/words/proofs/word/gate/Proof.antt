@@ -1,7 +1,7 @@
-use Rattle.gates.proofs.Counts.{gate-made}
+use Rattle.words.proofs.Counts.{gate-made}
 use borrow.Author.Needs.{needs}
-use Rattle.gates.proofs.word.gate.Statement.{statement}
-use Rattle.gates.proofs.word.gate.Tie as tie
+use Rattle.words.proofs.word.gate.Statement.{statement}
+use Rattle.words.proofs.word.gate.Tie as tie
 
 returns : tie.Need-returns
 returns c =

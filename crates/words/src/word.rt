@@ -4,7 +4,7 @@ ghost use mathlib.Core.List.{[], _∷_};
 ghost use Prim.Native.Nat.{_<_};
 ghost use lib.ListN.{take};
 ghost use Rattle.routing.specs.Four.{bitAt};
-ghost use Rattle.gates.specs.Word.{rightCount, wrong, late, made, gate};
+ghost use Rattle.words.specs.Word.{rightCount, wrong, late, made, gate};
 
 // Net n of the nets v; there are none past 63.
 pub fn net(v: u64, n: u32) -> bool
@@ -24,7 +24,7 @@ fn right_count(kind: u32, n: u32) -> bool
 }
 
 // Refusal 11: wrong kind, count or unused field.
-pub(crate) fn wrong(w: u32) -> bool
+pub fn wrong(w: u32) -> bool
     ensures { λ r. ⌜ r ≡ wrong w ⌝ }
 {
     let n = w % 16;
@@ -36,7 +36,7 @@ pub(crate) fn wrong(w: u32) -> bool
 }
 
 // Refusal 12: the gate makes net m and reads net m or a later one.
-pub(crate) fn late(w: u32, m: u32) -> bool
+pub fn late(w: u32, m: u32) -> bool
     ensures { λ r. ⌜ r ≡ late w m ⌝ }
 {
     let n = w % 16;
@@ -72,7 +72,7 @@ fn made(kind: u32, n: u32, a: bool, b: bool, c: bool, d: bool) -> bool
 }
 
 // The value of the gate w over the nets v.
-pub(crate) fn gate(w: u32, v: u64) -> bool
+pub fn gate(w: u32, v: u64) -> bool
     ensures { λ r. ⌜ r ≡ gate w v ⌝ }
 {
     made(

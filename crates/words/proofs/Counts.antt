@@ -10,7 +10,7 @@ use lib.ListN.{getD, take, drop, List·getD-eq-default}
 use Rattle.routing.specs.Four.{bitAt}
 use Rattle.routing.proofs.Equal.{row-of}
 use Rattle.routing.proofs.Tests.{upto, flags, everywhere, beq→eq}
-use Rattle.gates.specs.Word.{kindOf, countOf, any, differ, values, made, gate, rightCount}
+use Rattle.words.specs.Word.{kindOf, countOf, any, differ, values, made, gate, rightCount}
 
 abbrev four : Bool → Bool → Bool → Bool → List Bool
 four a b c d = a ∷ b ∷ c ∷ d ∷ []

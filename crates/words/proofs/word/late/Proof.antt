@@ -1,9 +1,9 @@
 use native.Mathlib.Nat.{mod-lt}
 use lib.Dec.{lit<}
-use Rattle.gates.specs.Word.{late}
-use Rattle.gates.proofs.Counts.{any-covered}
-use Rattle.gates.proofs.word.late.Statement.{statement}
-use Rattle.gates.proofs.word.late.Tie as tie
+use Rattle.words.specs.Word.{late}
+use Rattle.words.proofs.Counts.{any-covered}
+use Rattle.words.proofs.word.late.Statement.{statement}
+use Rattle.words.proofs.word.late.Tie as tie
 
 returns : tie.Need-returns
 unfolding late
