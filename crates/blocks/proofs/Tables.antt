@@ -1,4 +1,4 @@
--- The seven tables are well-formed: the evaluator's own test computes to no refusal. And so the evaluator that anybody can call answers, for every
+-- The three tables are well-formed: the evaluator's own test computes to no refusal. And so the evaluator that anybody can call answers, for every
 -- pattern of block inputs, the nets that the block's function reads. Assumes nothing.
 use mathlib.Core.Bool.{Bool, false}
 use mathlib.Core.Path.{_≡_, refl, sym}
@@ -17,24 +17,14 @@ use Rattle.blocks.specs.Lines.{lines}
 use Rattle.blocks.specs.Decode.{decodeWords}
 use Rattle.blocks.specs.Filter.{filterWords}
 use Rattle.blocks.specs.Phase.{phaseWords}
-use Rattle.blocks.specs.Turn.{turnWords}
-use Rattle.blocks.specs.Shut.{shutWords}
-use Rattle.blocks.specs.Select.{selectWords}
-use Rattle.blocks.specs.Choose.{chooseWords}
 
 -- a table and its count of block inputs: within the limits of refusal 10, and with no word that 11 or 12 refuses
 abbrev pub Formed : List ℕ → ℕ → Type 0
 Formed words inputs = (outsideLimits words inputs ≡ false) × (firstFault words inputs 0 ≡ fault 0 0)
 
-pub well-formed : Formed decodeWords 4
-    × Formed filterWords 8
-    × Formed phaseWords 6
-    × Formed turnWords 7
-    × Formed shutWords 7
-    × Formed selectWords 3
-    × Formed chooseWords 8
+pub well-formed : Formed decodeWords 4 × Formed filterWords 8 × Formed phaseWords 6
 unfolding firstFault rightCount wrong late
-well-formed = ((refl, refl), (refl, refl), (refl, refl), (refl, refl), (refl, refl), (refl, refl), (refl, refl))
+well-formed = ((refl, refl), (refl, refl), (refl, refl))
 
 -- block inputs are a number below 2 to the power of their count
 lines-lt : (l : List Bool) → lines l < 2 ^ length l

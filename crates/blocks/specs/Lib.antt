@@ -3,7 +3,3 @@ pub mod Kinds
 pub mod Decode
 pub mod Filter
 pub mod Phase
-pub mod Turn
-pub mod Shut
-pub mod Select
-pub mod Choose

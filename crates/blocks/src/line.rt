@@ -19,7 +19,7 @@ pub fn lines(a: bool, b: bool, c: bool, d: bool, e: bool, f: bool, g: bool, h: b
 }
 
 // Four nets of an evaluation.
-pub(crate) fn four_nets(v: u64, a: u32, b: u32, c: u32, d: u32) -> [bool; 4]
+pub fn four_nets(v: u64, a: u32, b: u32, c: u32, d: u32) -> [bool; 4]
     ensures { λ r. ⌜ r ≡ fourNets v a b c d ⌝ }
 {
     [

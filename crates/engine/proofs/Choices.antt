@@ -14,8 +14,8 @@ use Rattle.routing.proofs.Tests.{flag, upto, flags, everywhere, beq→eq}
 use Rattle.states.specs.declared.state.State.{State}
 use Rattle.states.specs.State.{shutAt, holderAt, Held}
 use Rattle.fabric.specs.Cycle.{acked, switchByte, switchAfter}
-use Rattle.blocks.specs.Choose.{chosen}
-use Rattle.blocks.proofs.Truths.{select-law, choose-law}
+use Rattle.ways.specs.Choose.{chosen}
+use Rattle.ways.proofs.Truths.{select-law, choose-law}
 use Rattle.wiring.specs.Wiring.{bitsOf, selecting, choosing, switching, acking, letting, gateAcks, gateSwitch}
 use Rattle.wiring.proofs.Equal.{lines-of}
 use Rattle.engine.proofs.Headers.{holder-bits, byte-bits}

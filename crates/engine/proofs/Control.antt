@@ -22,9 +22,10 @@ use Rattle.blocks.specs.declared.decode.Requests.{Requests}
 use Rattle.blocks.specs.declared.phase.Timing.{Timing}
 use Rattle.blocks.specs.Lines.{lines}
 use Rattle.blocks.specs.Filter.{filtered}
-use Rattle.blocks.specs.Turn.{numberOf}
-use Rattle.blocks.specs.Shut.{shutNext}
-use Rattle.blocks.proofs.Truths.{decode-high, decode-asks, filter-law, phase-routing, phase-waiting, turn-law, shut-law}
+use Rattle.ways.specs.Turn.{numberOf}
+use Rattle.ways.specs.Shut.{shutNext}
+use Rattle.blocks.proofs.Truths.{decode-high, decode-asks, filter-law, phase-routing, phase-waiting}
+use Rattle.ways.proofs.Truths.{turn-law, shut-law}
 use Rattle.wiring.specs.Wiring.{decoding, phasing, requestsOf, filtering, turning, remaining, gateState}
 use Rattle.engine.proofs.Headers.{active-bit, output-bits, holder-bits}
 

@@ -11,15 +11,15 @@ use Rattle.states.specs.declared.state.State.{State}
 use Rattle.states.specs.State.{shutAt, holderAt}
 use Rattle.blocks.specs.declared.decode.Requests.{Requests}
 use Rattle.blocks.specs.declared.phase.Timing.{Timing}
-use Rattle.blocks.specs.declared.turn.Holder.{Holder}
+use Rattle.ways.specs.declared.turn.Holder.{Holder}
 use Rattle.blocks.specs.Lines.{lines}
 use Rattle.blocks.specs.Decode.{decoded}
 use Rattle.blocks.specs.Filter.{filtered}
 use Rattle.blocks.specs.Phase.{phased}
-use Rattle.blocks.specs.Turn.{numberOf, turned}
-use Rattle.blocks.specs.Shut.{shutNext}
-use Rattle.blocks.specs.Select.{selected}
-use Rattle.blocks.specs.Choose.{chosen}
+use Rattle.ways.specs.Turn.{numberOf, turned}
+use Rattle.ways.specs.Shut.{shutNext}
+use Rattle.ways.specs.Select.{selected}
+use Rattle.ways.specs.Choose.{chosen}
 
 -- bit k of each of four bytes
 abbrev pub bitsOf : List ℕ → ℕ → List Bool

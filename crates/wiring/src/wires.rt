@@ -8,8 +8,8 @@ ghost use lib.ListN.{getD};
 ghost use Rattle.routing.specs.Four.{four, bitAt};
 ghost use Rattle.routing.specs.Port.{input, holderIn};
 ghost use Rattle.routing.specs.Header.{headerOf};
-ghost use Rattle.blocks.specs.Turn.{numberOf};
-ghost use Rattle.blocks.specs.Shut.{shutNext};
+ghost use Rattle.ways.specs.Turn.{numberOf};
+ghost use Rattle.ways.specs.Shut.{shutNext};
 ghost use Rattle.wiring.specs.Wiring.{bitsOf, decoding, phasing, requestsOf, filtering, turning, selecting, switching, acking};
 use blocks::Requests;
 use blocks::Timing;
@@ -90,10 +90,10 @@ pub fn shut_all(shut: [bool; 4], start: bool, routing: bool, remain: [[bool; 4];
     ensures { λ r. ⌜ r ≡ four (λ o. shutNext (getD shut o false) start routing (getD remain o [])) ⌝ }
 {
     [
-        blocks::shut_next(shut[0], start, routing, remain[0]),
-        blocks::shut_next(shut[1], start, routing, remain[1]),
-        blocks::shut_next(shut[2], start, routing, remain[2]),
-        blocks::shut_next(shut[3], start, routing, remain[3]),
+        ways::shut_next(shut[0], start, routing, remain[0]),
+        ways::shut_next(shut[1], start, routing, remain[1]),
+        ways::shut_next(shut[2], start, routing, remain[2]),
+        ways::shut_next(shut[3], start, routing, remain[3]),
     ]
 }
 
@@ -101,8 +101,8 @@ pub fn shut_all(shut: [bool; 4], start: bool, routing: bool, remain: [[bool; 4];
 fn turn(remain: [bool; 4], holder: Input, routing: bool) -> Input
     ensures { λ r. ⌜ r ≡ input (numberOf (turning remain (holder .0) routing)) ⌝ }
 {
-    let next = blocks::turned(remain, bit(holder.0, 0), bit(holder.0, 1), routing);
-    Input(blocks::number_of(next))
+    let next = ways::turned(remain, bit(holder.0, 0), bit(holder.0, 1), routing);
+    Input(ways::number_of(next))
 }
 
 pub fn turn_all(remain: [[bool; 4]; 4], holders: [Input; 4], routing: bool) -> [Input; 4]
@@ -120,7 +120,7 @@ pub fn turn_all(remain: [[bool; 4]; 4], holders: [Input; 4], routing: bool) -> [
 fn select(holder: Input, shut: bool) -> [bool; 4]
     ensures { λ r. ⌜ r ≡ selecting (holder .0) shut ⌝ }
 {
-    blocks::selected(bit(holder.0, 0), bit(holder.0, 1), shut)
+    ways::selected(bit(holder.0, 0), bit(holder.0, 1), shut)
 }
 
 pub fn select_all(holders: [Input; 4], shut: [bool; 4]) -> [[bool; 4]; 4]
@@ -139,7 +139,7 @@ fn acknowledge(acks: [bool; 4], lets: [[bool; 4]; 4], i: usize) -> bool
     requires { ⌜ i < 4 ⌝ }
     ensures { λ r. ⌜ r ≡ acking acks (λ o. getD lets o []) i ⌝ }
 {
-    blocks::chosen(
+    ways::chosen(
         [acks[0], acks[1], acks[2], acks[3]],
         [lets[0][i], lets[1][i], lets[2][i], lets[3][i]],
     )
@@ -161,14 +161,14 @@ fn switch_byte(second: [u8; 4], lets: [bool; 4]) -> u8
     ensures { λ r. ⌜ r ≡ switching second lets ⌝ }
 {
     blocks::lines(
-        blocks::chosen(bits(second, 0), lets),
-        blocks::chosen(bits(second, 1), lets),
-        blocks::chosen(bits(second, 2), lets),
-        blocks::chosen(bits(second, 3), lets),
-        blocks::chosen(bits(second, 4), lets),
-        blocks::chosen(bits(second, 5), lets),
-        blocks::chosen(bits(second, 6), lets),
-        blocks::chosen(bits(second, 7), lets),
+        ways::chosen(bits(second, 0), lets),
+        ways::chosen(bits(second, 1), lets),
+        ways::chosen(bits(second, 2), lets),
+        ways::chosen(bits(second, 3), lets),
+        ways::chosen(bits(second, 4), lets),
+        ways::chosen(bits(second, 5), lets),
+        ways::chosen(bits(second, 6), lets),
+        ways::chosen(bits(second, 7), lets),
     ) as u8
 }
 

@@ -1,6 +1,6 @@
 use mathlib.Core.Path.{_∙_}
 use Rattle.routing.proofs.Equal.{two}
-use Rattle.blocks.specs.Select.{selected}
+use Rattle.ways.specs.Select.{selected}
 use borrow.Author.Needs.{needs}
 use Rattle.wiring.proofs.wires.select.Statement.{statement}
 use Rattle.wiring.proofs.wires.select.Tie as tie

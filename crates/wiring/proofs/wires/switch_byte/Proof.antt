@@ -1,7 +1,7 @@
 use mathlib.Core.Bool.{Bool}
 use mathlib.Core.Path.{ap, _∙_}
 use mathlib.Core.List.{List}
-use Rattle.blocks.specs.Choose.{chosen}
+use Rattle.ways.specs.Choose.{chosen}
 use Rattle.wiring.specs.Wiring.{switching}
 use Rattle.wiring.proofs.Equal.{lines-of}
 use borrow.Author.Needs.{needs}

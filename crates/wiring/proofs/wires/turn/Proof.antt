@@ -1,7 +1,7 @@
 use mathlib.Core.Path.{ap, _∙_}
 use Rattle.routing.specs.Port.{input}
 use Rattle.routing.proofs.Equal.{two}
-use Rattle.blocks.specs.Turn.{numberOf, turned}
+use Rattle.ways.specs.Turn.{numberOf, turned}
 use borrow.Author.Needs.{needs}
 use Rattle.wiring.proofs.wires.turn.Statement.{statement}
 use Rattle.wiring.proofs.wires.turn.Tie as tie

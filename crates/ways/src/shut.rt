@@ -1,7 +1,7 @@
 // An output's next shut flag.
 ghost use mathlib.Core.Path.{_≡_};
-ghost use Rattle.blocks.specs.Shut.{shutNext};
-use super::line::lines;
+ghost use Rattle.ways.specs.Shut.{shutNext};
+use blocks::lines;
 
 const SHUT: [u32; 5] = [
     // 0 shut, 1 start: frame start, 2 routing, 3 to 6 r0 to r3: the input remains

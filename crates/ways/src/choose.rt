@@ -1,7 +1,7 @@
 // One bit of four: a data bit, or an acknowledgement.
 ghost use mathlib.Core.Path.{_≡_};
-ghost use Rattle.blocks.specs.Choose.{chosen};
-use super::line::lines;
+ghost use Rattle.ways.specs.Choose.{chosen};
+use blocks::lines;
 
 const CHOOSE: [u32; 3] = [
     // 0 to 3 bit0 to bit3, 4 to 7 lets0 to lets3: the bit is let through

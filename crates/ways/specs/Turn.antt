@@ -5,9 +5,9 @@ use Prim.Native.Nat.{ℕ}
 use lib.ListN.{getD}
 use Rattle.routing.specs.Four.{four, bitAt}
 use Rattle.gates.specs.Evaluation.{valueOf}
-use Rattle.blocks.specs.declared.turn.Holder.{Holder}
+use Rattle.ways.specs.declared.turn.Holder.{Holder}
 use Rattle.blocks.specs.Lines.{lines}
 use Rattle.blocks.specs.Kinds.{inv, and2, or2, ao}
 
 -- nets 0 to 3: the input remains; 4 and 5 the holder's low and high bit, 6 a routing happens
 abbrev pub turnWords : List ℕ

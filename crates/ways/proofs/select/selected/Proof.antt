@@ -1,8 +1,8 @@
-use Rattle.blocks.specs.Select.{selectWords, selected}
+use Rattle.ways.specs.Select.{selectWords, selected}
 use Rattle.blocks.proofs.Nets.{nets-of}
 use borrow.Author.Needs.{needs}
-use Rattle.blocks.proofs.select.selected.Statement.{statement}
-use Rattle.blocks.proofs.select.selected.Tie as tie
+use Rattle.ways.proofs.select.selected.Statement.{statement}
+use Rattle.ways.proofs.select.selected.Tie as tie
 
 returns : tie.Need-returns
 unfolding selected

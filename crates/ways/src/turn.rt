@@ -1,7 +1,7 @@
 // An output's next holder.
 ghost use mathlib.Core.Path.{_≡_};
-ghost use Rattle.blocks.specs.Turn.{numberOf, turned};
-use super::line::lines;
+ghost use Rattle.ways.specs.Turn.{numberOf, turned};
+use blocks::lines;
 
 // Each of the holder's two bits goes by a JK rule: j sets it where it is 0, k clears it where it is 1.
 const TURN: [u32; 25] = [

@@ -1,8 +1,8 @@
-use Rattle.blocks.specs.Shut.{shutWords, shutNext}
+use Rattle.ways.specs.Shut.{shutWords, shutNext}
 use Rattle.blocks.proofs.Nets.{net-of}
 use borrow.Author.Needs.{needs}
-use Rattle.blocks.proofs.shut.shut_next.Statement.{statement}
-use Rattle.blocks.proofs.shut.shut_next.Tie as tie
+use Rattle.ways.proofs.shut.shut_next.Statement.{statement}
+use Rattle.ways.proofs.shut.shut_next.Tie as tie
 
 returns : tie.Need-returns
 unfolding shutNext

@@ -1,8 +1,8 @@
-use Rattle.blocks.specs.Turn.{turnWords, turned}
+use Rattle.ways.specs.Turn.{turnWords, turned}
 use Rattle.blocks.proofs.Nets.{two-nets}
 use borrow.Author.Needs.{needs}
-use Rattle.blocks.proofs.turn.turned.Statement.{statement}
-use Rattle.blocks.proofs.turn.turned.Tie as tie
+use Rattle.ways.proofs.turn.turned.Statement.{statement}
+use Rattle.ways.proofs.turn.turned.Tie as tie
 
 returns : tie.Need-returns
 unfolding turned

@@ -1,8 +1,8 @@
-use Rattle.blocks.specs.Choose.{chooseWords, chosen}
+use Rattle.ways.specs.Choose.{chooseWords, chosen}
 use Rattle.blocks.proofs.Nets.{net-of}
 use borrow.Author.Needs.{needs}
-use Rattle.blocks.proofs.choose.chosen.Statement.{statement}
-use Rattle.blocks.proofs.choose.chosen.Tie as tie
+use Rattle.ways.proofs.choose.chosen.Statement.{statement}
+use Rattle.ways.proofs.choose.chosen.Tie as tie
 
 returns : tie.Need-returns
 unfolding chosen

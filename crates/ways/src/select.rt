@@ -1,8 +1,8 @@
 // Which input an output lets through.
 ghost use mathlib.Core.Path.{_≡_};
-ghost use Rattle.blocks.specs.Select.{selected};
-use super::line::four_nets;
-use super::line::lines;
+ghost use Rattle.ways.specs.Select.{selected};
+use blocks::four_nets;
+use blocks::lines;
 
 const SELECT: [u32; 6] = [
     // 0 low and 1 high: the holder's bits, 2 shut

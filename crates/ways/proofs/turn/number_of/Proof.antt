@@ -1,6 +1,6 @@
 use borrow.Author.Needs.{needs}
-use Rattle.blocks.proofs.turn.number_of.Statement.{statement}
-use Rattle.blocks.proofs.turn.number_of.Tie as tie
+use Rattle.ways.proofs.turn.number_of.Statement.{statement}
+use Rattle.ways.proofs.turn.number_of.Tie as tie
 
 returns : tie.Need-returns
 returns c = c .lines .ensures .0

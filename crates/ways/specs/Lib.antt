@@ -1,0 +1,4 @@
+pub mod Turn
+pub mod Shut
+pub mod Select
+pub mod Choose
