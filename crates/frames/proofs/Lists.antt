@@ -78,12 +78,6 @@ unfolding listed
 listed-map g f k zero = refl
 listed-map {B = B} g f k (suc n) = ap (λ (l : List B). g (f k) ∷ l) (listed-map g f (suc k) n)
 
--- a zero at the end goes
-pub trimmed-zero : (l : List ℕ) {x : ℕ} → x ≡ 0 → trimmed (l ++ (x ∷ [])) ≡ trimmed l
-unfolding trimmed
-trimmed-zero [] e = ap (λ (x : ℕ). trimmed (x ∷ [])) e
-trimmed-zero (b ∷ l) e = ap (keptBefore b) (trimmed-zero l e)
-
 -- a byte before others stays
 kept : (b : ℕ) (l : List ℕ) (x : ℕ) → keptBefore b (l ++ (x ∷ [])) ≡ b ∷ l ++ (x ∷ [])
 kept b [] x = refl
@@ -114,6 +108,9 @@ trimmed-zeros : (l : List ℕ) (n : ℕ) → trimmed (l ++ replicate n 0) ≡ tr
 unfolding trimmed
 trimmed-zeros [] n = only-zeros n
 trimmed-zeros (b ∷ l) n = ap (keptBefore b) (trimmed-zeros l n)
+
+pub trimmed-zero : (l : List ℕ) {x : ℕ} → x ≡ 0 → trimmed (l ++ (x ∷ [])) ≡ trimmed l
+trimmed-zero l e = ap (λ (x : ℕ). trimmed (l ++ (x ∷ []))) e ∙ trimmed-zeros l 1
 
 -- a list that does not end in zero is all that is left of it
 ends-so : (l : List ℕ) → 1 ≤ length l → (getD l (length l - 1) 0 ≡ 0 → ⊥) → trimmed l ≡ l
