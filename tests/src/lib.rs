@@ -1,4 +1,5 @@
-//! Judges the programs `replay`, `probe` and `write_frame` from outside.
+//! Judges the programs `replay`, `probe`, `write_frame` and `readback` from
+//! outside.
 //!
 //! `model` says what is asked of them, `make` thinks up inputs, and `drive`
 //! runs the programs and compares. The model shares no code with the programs,

@@ -1,9 +1,9 @@
-//! The driver: judges three programs by the model, or itself by the fakes.
+//! The driver: judges four programs by the model, or itself by the fakes.
 //! The options are told in `drive::options::USAGE`. Status 0 is a good run,
 //! 1 a difference or too little seen, 2 a bad command line.
 
 use outside_model::drive::examples::read_folder;
-use outside_model::drive::options::{Options, CALLS, CAPTURES, FRAMES, USAGE};
+use outside_model::drive::options::{Options, CALLS, CAPTURES, FRAMES, READBACKS, USAGE};
 use outside_model::drive::program::Program;
 use outside_model::drive::run::Plan;
 use outside_model::drive::selftest::self_test;
@@ -85,17 +85,22 @@ fn judge_programs(options: &Options, seed: u64, again: &str) -> Result<(), Strin
         replay: program(&options.replay),
         probe: program(&options.probe),
         write: program(&options.write),
+        readback: program(&options.readback),
         examples,
         seed,
         captures: options.captures.unwrap_or(CAPTURES),
         calls: options.calls.unwrap_or(CALLS),
         frames: options.frames.unwrap_or(FRAMES),
+        readbacks: options.readbacks.unwrap_or(READBACKS),
     };
     let tally = plan
         .run()
         .map_err(|difference| difference.tell(seed, again))?;
     tally.lines().iter().for_each(|line| println!("{line}"));
-    let small = plan.captures < CAPTURES || plan.calls < CALLS || plan.frames < FRAMES;
+    let small = plan.captures < CAPTURES
+        || plan.calls < CALLS
+        || plan.frames < FRAMES
+        || plan.readbacks < READBACKS;
     if let Some(note) = tally.covered(small)? {
         println!("{note}");
     }

@@ -1,55 +1,49 @@
--- An input of any size: what is kept of it is printed as the whole would be. Assumes nothing.
-use mathlib.Core.Bool.{Bool, true}
+-- Both engines from reset agree, and how many bytes stand for a capture. Assumes nothing.
+use mathlib.Core.Bool.{Bool, true, false}
 use mathlib.Core.Path.{_≡_, sym, ap, _∙_}
 use mathlib.Core.List.{List}
-use Prim.Native.Nat.{ℕ, _+_, _%_, _≤_, _<_, min}
+use Prim.Native.Nat.{ℕ, _+_, _%_, _≤_, _<_}
 use native.Mathlib.Omega.{arith}
-use lib.ListN.{length, take, length-replicate}
-use lib.Seq.{length-take-le}
+use lib.ListN.{length}
 use borrow.Author.Tests.{lt-ltb, le-ltb}
 use Rattle.text.specs.declared.difference.Difference.{Difference}
-use Rattle.text.specs.Page.{Page, Wrote}
-use Rattle.text.proofs.Lists.{take-replicate, take-min}
-use Rattle.text.proofs.Pages.{spelt}
+use Rattle.text.specs.declared.difference.Difference.the-variants.{Same}
 use Rattle.routing.proofs.Equal.{two}
+use Rattle.states.specs.declared.state.State.{State}
+use Rattle.states.specs.State.{resetState, resetRows}
+use Rattle.fabric.specs.Cycle.{Machine, machine}
 use Rattle.fabric.specs.Run.{resetMachine}
+use Rattle.capture.specs.declared.run.Replayed.{Replayed}
 use Rattle.capture.specs.Replay.{replayOf, replayWrites}
-use Rattle.comparison.specs.Agreement.{isSame}
-use Rattle.comparison.specs.Verdict.{outcomeText, verdictText}
-use Rattle.comparison.specs.Both.{zeros, bothDiffer, bothText, keptLength, kept, printed}
+use Rattle.comparison.specs.declared.both.Both.{Both}
+use Rattle.comparison.specs.Agreement.{disagreementOf}
+use Rattle.comparison.specs.Both.{bothDiffer, bothOf, keptLength}
 use Rattle.comparison.proofs.Agreements.{agrees-with-itself}
 
-pub kept-long : (n : ℕ) → 65536 < n → 65530 + n % 5 ≡ keptLength n
-kept-long n h = rw (lt-ltb 65536 n h)
+pub kept-long : (n : ℕ) → 61449 < n → 61445 + n % 5 ≡ keptLength n
+kept-long n h = rw (lt-ltb 61449 n h)
 
-pub kept-whole : (n : ℕ) → n ≤ 65536 → n ≡ keptLength n
-kept-whole n h = rw (le-ltb 65536 n h)
+pub kept-whole : (n : ℕ) → n ≤ 61449 → n ≡ keptLength n
+kept-whole n h = rw (le-ltb 61449 n h)
 
--- both engines on a capture, each into as many zeros: they agree, and what is to be printed is said
-both-print : (capture z : List ℕ) → z ≡ zeros (length capture) → (isSame (bothDiffer capture z z) ≡ true) × (bothText capture z z ≡ printed capture)
-unfolding printed
-both-print capture z e =
-    let same = agrees-with-itself (replayOf resetMachine capture (length z)) (replayWrites resetMachine capture z) in
-    let said : bothText capture z z ≡ outcomeText (replayOf resetMachine capture (length z)) (replayWrites resetMachine capture z) = ap (λ (d : Difference). verdictText d (replayOf resetMachine capture (length z)) (replayWrites resetMachine capture z)) same in
-    let long : length z ≡ length capture = ap length e ∙ length-replicate (length capture) 0 in
-    (ap isSame same, said ∙ two outcomeText (ap (replayOf resetMachine capture) long) (ap (replayWrites resetMachine capture) e))
+-- a replay from the state and the rows that reset gives is a replay from reset
+pub from-reset : (capture buffer : List ℕ) {after : List ℕ} {s : State} {rows : List (List ℕ)} {t : Replayed} → s ≡ resetState → rows ≡ resetRows
+    → (t ≡ replayOf (machine s rows) capture (length buffer)) × (after ≡ replayWrites (machine s rows) capture buffer)
+    → (t ≡ replayOf resetMachine capture (length buffer)) × (after ≡ replayWrites resetMachine capture buffer)
+from-reset capture buffer es er e =
+    let m = two machine es er in
+    (e .0 ∙ ap (λ (x : Machine). replayOf x capture (length buffer)) m, e .1 ∙ ap (λ (x : Machine). replayWrites x capture buffer) m)
 
-module _ (bytes : List ℕ) (total n : ℕ) (is : n ≡ min (keptLength total) (length bytes)) (fits : n ≤ 65536) {plain gates : List ℕ} (ep : plain ≡ zeros 65536) (eg : gates ≡ zeros 65536) where
-  cut : take n bytes ≡ kept bytes total
-  cut = ap (λ (k : ℕ). take k bytes) is ∙ take-min (keptLength total) bytes
+-- number and index of one replay, with where it differs from another
+pub compared : (capture plain gates : List ℕ) {p g : Replayed} {x y : List ℕ} {d : Difference}
+    → (p ≡ replayOf resetMachine capture (length plain)) × (x ≡ replayWrites resetMachine capture plain)
+    → (g ≡ replayOf resetMachine capture (length gates)) × (y ≡ replayWrites resetMachine capture gates)
+    → d ≡ disagreementOf p g x y
+    → _≡_ {A = Both} (record { number = p .number; index = p .index; difference = d }) (bothOf capture plain gates)
+compared capture plain gates {p = p} {g = g} {x = x} {y = y} {d = d} ep eg ed =
+    let is : d ≡ bothDiffer capture plain gates = ed ∙ two (λ (a : Replayed) (l : List ℕ). disagreementOf a g l y) (ep .0) (ep .1) ∙ two (λ (a : Replayed) (l : List ℕ). disagreementOf (replayOf resetMachine capture (length plain)) a (replayWrites resetMachine capture plain) l) (eg .0) (eg .1) in
+    two (λ (a : Replayed) (e : Difference). record { number = a .number; index = a .index; difference = e }) (ep .0) is
 
-  long : length (take n bytes) ≡ n
-  long = length-take-le n bytes (omega (arith, is))
-
-  as-zeros : {z : List ℕ} → z ≡ zeros 65536 → take n z ≡ zeros (length (take n bytes))
-  as-zeros e = ap (take n) e ∙ take-replicate 0 n 65536 fits ∙ ap zeros (sym long)
-
-  pub both-said : {agreed : Bool} {before after : Page}
-      → (agreed ≡ isSame (bothDiffer (take n bytes) (take n plain) (take n gates))) × Wrote before (bothText (take n bytes) (take n plain) (take n gates)) after
-      → (agreed ≡ true) × Wrote before (printed (kept bytes total)) after
-  both-said said =
-      let p = both-print (take n bytes) (take n plain) (as-zeros ep) in
-      let z : take n gates ≡ take n plain = ap (take n) (eg ∙ sym ep) in (
-        said .0 ∙ ap (λ (g : List ℕ). isSame (bothDiffer (take n bytes) (take n plain) g)) z ∙ p .0,
-        spelt (said .1) (ap (bothText (take n bytes) (take n plain)) z ∙ p .1 ∙ ap printed cut),
-      )
+-- into equal buffers the two replays are the same
+pub both-agree : (capture buffer : List ℕ) → bothDiffer capture buffer buffer ≡ Same
+both-agree capture buffer = agrees-with-itself (replayOf resetMachine capture (length buffer)) (replayWrites resetMachine capture buffer)

@@ -15,7 +15,7 @@ fn end_image(p: Replayed) -> [u8; 25]
     image::image_of(p.state, first, second, switched, heads)
 }
 
-fn is_same(d: Difference) -> bool
+pub fn is_same(d: Difference) -> bool
     ensures { λ r. ⌜ r ≡ isSame d ⌝ }
 {
     match d {

@@ -1,48 +1,58 @@
-// An input of any size through both engines from reset. Its first 65,536 bytes are kept, and the rest is counted.
-ghost use mathlib.Core.Bool.{true};
+// A capture through both engines from reset, and the bytes that stand for one of any size.
 ghost use mathlib.Core.Path.{_≡_};
 ghost use Prim.Native.Nat.{_≤_};
-ghost use Rattle.text.specs.Page.{page, Wrote};
-ghost use Rattle.comparison.specs.Agreement.{isSame};
-ghost use Rattle.comparison.specs.Both.{zeros as Both·zeros, bothDiffer, bothText, keptLength, kept, printed};
-use super::verdict;
-use super::verdict::Verdict;
+ghost use lib.ListN.{length};
+ghost use Rattle.fabric.specs.Run.{resetMachine};
+ghost use Rattle.capture.specs.Replay.{replayWrites};
+ghost use Rattle.comparison.specs.Both.{zeros as Both·zeros, bothOf, keptLength, kept as Both·kept};
+use super::agreement;
+use text::Difference;
 
-fn replay_into(capture: &[u8], plain: &mut [u8], gates: &mut [u8], out: &mut [u8]) -> Verdict
-    ensures agreed { λ r. ⌜ r .agreed ≡ isSame (bothDiffer (now (capture .entry)) (now (plain .entry)) (now (gates .entry))) ⌝ }
-    ensures writes { λ r. ⌜ Wrote (page (now (out .entry)) 0) (bothText (now (capture .entry)) (now (plain .entry)) (now (gates .entry))) (page (now (out .exit)) (r .length)) ⌝ }
+// The refusal's number or 0 and its index, as the cycle rules give them, and where the gates differ.
+pub struct Both {
+    pub number: u8,
+    pub index: usize,
+    pub difference: Difference,
+}
+
+// By the rules into `plain`, by the gates into `gates`.
+pub fn replay_both(capture: &[u8], plain: &mut [u8], gates: &mut [u8]) -> Both
+    ensures both { λ r. ⌜ r ≡ bothOf (now (capture .entry)) (now (plain .entry)) (now (gates .entry)) ⌝ }
+    ensures plain { λ r. ⌜ now (plain .exit) ≡ replayWrites resetMachine (now (capture .entry)) (now (plain .entry)) ⌝ }
+    ensures gates { λ r. ⌜ now (gates .exit) ≡ replayWrites resetMachine (now (capture .entry)) (now (gates .entry)) ⌝ }
 {
     let s = states::reset_state();
     let rows = states::reset_rows();
     let p = capture::replay(s, rows, capture, &mut *plain);
     let g = engine::replay(s, rows, capture, &mut *gates);
-    verdict::put_verdict(out, p, g, plain, gates)
+    let difference = agreement::disagreement(p, g, plain, gates);
+    Both {
+        number: p.number,
+        index: p.index,
+        difference,
+    }
 }
 
 fn kept_length(total: u64) -> usize
-    ensures { λ r. ⌜ (r ≡ keptLength total) × (r ≤ 65536) ⌝ }
+    ensures { λ r. ⌜ (r ≡ keptLength total) × (r ≤ 61449) ⌝ }
 {
-    if 65536 < total {
-        65530 + (total % 5) as usize
+    if 61449 < total {
+        61445 + (total % 5) as usize
     } else {
         total as usize
     }
 }
 
-fn zeros() -> [u8; 65536]
-    ensures { λ r. ⌜ r ≡ Both·zeros 65536 ⌝ }
+// Of the first bytes of a capture of `total` bytes, those that stand for all of it.
+pub fn kept(bytes: &[u8], total: u64) -> &[u8]
+    ensures { λ r. ⌜ (now r ≡ Both·kept (now (bytes .entry)) total) × (length (now r) ≤ 61449) ⌝ }
 {
-    [0; 65536]
+    text::part(bytes, 0, kept_length(total))
 }
 
-// `bytes` are what is kept of an input of `total` bytes.
-pub fn replay_by_both(bytes: &[u8], total: u64, out: &mut [u8]) -> Verdict
-    ensures agreed { λ r. ⌜ r .agreed ≡ true ⌝ }
-    ensures writes { λ r. ⌜ Wrote (page (now (out .entry)) 0) (printed (kept (now (bytes .entry)) total)) (page (now (out .exit)) (r .length)) ⌝ }
+// Room for the answers to what is kept.
+pub fn zeros() -> [u8; 61449]
+    ensures { λ r. ⌜ r ≡ Both·zeros 61449 ⌝ }
 {
-    let most = kept_length(total);
-    let n = text::shorter(most, bytes.len());
-    let mut plain = zeros();
-    let mut gates = zeros();
-    replay_into(&bytes[..n], &mut plain[..n], &mut gates[..n], out)
+    [0; 61449]
 }

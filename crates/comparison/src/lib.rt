@@ -1,13 +1,13 @@
-//! One capture through both engines, and what is printed of it: the listing or the refusal line where the two agree in every byte, number,
-//! index and end state, otherwise where they differ.
+//! One capture through both engines, compared in every answer byte, number, index and end state.
 //!
 //! That they agree is proved. The comparison is for what no proof covers: a fault of the compiled code or of the machine.
 
 mod agreement;
 mod both;
-mod verdict;
 
 pub use agreement::disagreement;
-pub use both::replay_by_both;
-pub use verdict::Verdict;
-pub use verdict::put_verdict;
+pub use agreement::is_same;
+pub use both::Both;
+pub use both::kept;
+pub use both::replay_both;
+pub use both::zeros;

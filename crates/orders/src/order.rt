@@ -1,7 +1,7 @@
 // An order's bytes, and the frame that they ask for.
 ghost use mathlib.Core.Path.{_≡_};
 ghost use Prim.Native.Nat.{_≤_};
-ghost use lib.ListN.{length, take, drop};
+ghost use lib.ListN.{length};
 ghost use Rattle.plans.specs.Refusal.{writeRefusal};
 ghost use Rattle.frames.specs.Writing.{frameWrites};
 ghost use Rattle.orders.specs.Order.{orderCycles, orderAcks, cellSize, orderSize, planOf};
@@ -41,16 +41,6 @@ pub fn order_size(order: &[u8]) -> usize
     place3 + 1 + cell_size(order, place3)
 }
 
-// n bytes from byte `at` on, or as many of them as there are.
-fn part(bytes: &[u8], at: usize, n: usize) -> &[u8]
-    ensures { λ r. ⌜ now r ≡ take n (drop at (now (bytes .entry))) ⌝ }
-{
-    let from = text::shorter(at, bytes.len());
-    let count = text::shorter(n, bytes.len() - from);
-    let end = from + count;
-    &bytes[from..end]
-}
-
 // Writes the frame that an order asks for, or refuses it by its number; of bytes that are missing there are none in a cell.
 pub fn write_order(out: &mut [u8], order: &[u8]) -> u8
     ensures number { λ r. ⌜ r ≡ writeRefusal (planOf (now (order .entry))) (length (now (out .entry))) ⌝ }
@@ -68,9 +58,9 @@ pub fn write_order(out: &mut [u8], order: &[u8]) -> u8
         image::byte_at(order, 0),
         cycles_in(order),
         acks_in(order),
-        part(order, 5, size0),
-        part(order, place1 + 1, size1),
-        part(order, place2 + 1, size2),
-        part(order, place3 + 1, size3),
+        text::part(order, 5, size0),
+        text::part(order, place1 + 1, size1),
+        text::part(order, place2 + 1, size2),
+        text::part(order, place3 + 1, size3),
     )
 }

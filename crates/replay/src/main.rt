@@ -3,7 +3,7 @@
 ghost use mathlib.Core.Path.{_≡_};
 ghost use Prim.Native.Nat.{_≤_};
 ghost use lib.ListN.{length};
-use comparison::Verdict;
+use verdict::Verdict;
 
 // Room for the longest listing.
 fn blank_page() -> [u8; 262144]
@@ -34,6 +34,6 @@ fn main() {
         return;
     }
     let mut page = blank_page();
-    let v = comparison::replay_by_both(&kept, taken.total, &mut page);
+    let v = verdict::replay_by_both(&kept, taken.total, &mut page);
     say(v, &page);
 }

@@ -1,5 +1,6 @@
 // What is said where the two engines differ. They do not, so the results of the gates are made up.
 use super::show;
+use comparison::Both;
 use routing::Input;
 use states::State;
 
@@ -16,7 +17,12 @@ fn compared(title: &[u8], byte: u8, waiting: bool) {
     let plain = [0u8; 15];
     let gates = [0, 0, 0, 0, 0, 0, 0, 0, 0, 0, 0, 0, byte, 0, 0];
     let mut page = show::blank_page();
-    let v = comparison::put_verdict(&mut page, p, g, &plain, &gates);
+    let b = Both {
+        number: p.number,
+        index: p.index,
+        difference: comparison::disagreement(p, g, &plain, &gates),
+    };
+    let v = verdict::put_verdict(&mut page, b, &plain);
     let n = v.length;
     show::say(title, b": ", &page, n);
 }

@@ -1,8 +1,9 @@
-//! A program that answers from the model, as `replay`, as `probe` or as
-//! `write_frame`, and wrongly in one way if asked to. The driver tests itself
-//! on it.
+//! A program that answers from the model, as `replay`, as `probe`, as
+//! `write_frame` or as `readback`, and wrongly in one way if asked to. The
+//! driver tests itself on it.
 
-use outside_model::model::wrong::{by_name, Wrong, PROGRAMS};
+use outside_model::model::shows::PROGRAMS;
+use outside_model::model::wrong::{by_name, Wrong};
 use outside_model::model::Model;
 use std::io::{self, Read, Write};
 use std::process::ExitCode;
@@ -24,6 +25,7 @@ fn main() -> ExitCode {
         "replay" => (text(&model, &model.listing(&input).1), String::new()),
         "probe" => (text(&model, &lines(&model, &input)), String::new()),
         "write" => frames(&model, &input),
+        "readback" => (text(&model, &model.readback(&input).output), String::new()),
         _ => return usage(),
     };
     if model.has(Wrong::Chatter) {

@@ -1,16 +1,23 @@
-//! How often each case of orders and cells was seen.
+//! How often each case of orders, cells and texts was seen.
 
 use super::cases::{of_order, Case, DONE, ENDS, LONE, MIXED, ROOMS};
 use super::cell_cases::{of_call, Worded, FOUND, NONE, WORDED};
+use super::head_cases::{self, of_head, SHOWN};
+use super::readback_cases::{self, of_readback, CUT, REFUSED};
+use super::text_cases::{of_pair, BYTES, LONG, MISFITS, PIECES, SAME, WAYS};
 use super::wanted::Who;
 use crate::model::frame_calls::ReadCall;
 use crate::model::probe::{Outcome, Reply};
+use crate::model::readback::Readback;
+use crate::model::text_calls::{HeadCall, Pair};
 use crate::model::written::Written;
 use crate::model::RIGHT;
 use std::collections::BTreeMap;
 
 const WRITER: Who = Who::Letter(b'W');
 const READER: Who = Who::Letter(b'K');
+const PAIRS: Who = Who::Letter(b'N');
+const HEADS: Who = Who::Letter(b'H');
 
 #[derive(Default)]
 pub struct CaseTally(BTreeMap<(Who, &'static str), usize>);
@@ -36,11 +43,32 @@ impl CaseTally {
                 let call = ReadCall::from_payload(payload).expect("it was answered");
                 self.look(READER, of_call(&call), &call);
             }
+            (b'N', Outcome::Number(_)) => {
+                self.pair(PAIRS, &RIGHT.pair(payload).expect("it was answered"));
+            }
+            (b'H', Outcome::Number(_)) => {
+                let call = HeadCall::from_payload(payload).expect("it was answered");
+                self.look(HEADS, of_head(&call), &call);
+            }
             (letter, outcome) => {
                 let payload = payload.to_vec();
                 let worded = Worded { payload, outcome };
-                self.look(Who::Letter(letter), WORDED, &worded);
+                let cases = if letter == b'N' { MISFITS } else { WORDED };
+                self.look(Who::Letter(letter), cases, &worded);
             }
+        }
+    }
+
+    fn pair(&mut self, who: Who, pair: &Pair) {
+        for cases in of_pair(pair) {
+            self.look(who, cases, pair);
+        }
+    }
+
+    pub fn readback(&mut self, readback: &Readback) {
+        self.look(Who::Readback, of_readback(readback), readback);
+        for pair in &readback.heads {
+            self.pair(Who::Readback, pair);
         }
     }
 
@@ -72,6 +100,16 @@ impl CaseTally {
             names(Who::Write, LONE),
             names(Who::Write, MIXED),
             names(Who::Write, ENDS),
+            texts(PAIRS),
+            names(PAIRS, LONG),
+            names(PAIRS, MISFITS),
+            names(HEADS, SHOWN),
+            names(HEADS, head_cases::NONE),
+            names(HEADS, WORDED),
+            names(Who::Readback, CUT),
+            names(Who::Readback, REFUSED),
+            names(Who::Readback, readback_cases::DONE),
+            texts(Who::Readback),
         ]
         .concat()
     }
@@ -85,7 +123,8 @@ impl CaseTally {
                 .collect();
             (who, items.join(", "))
         };
-        [WRITER, READER, Who::Write].map(whose).into()
+        let all = [WRITER, READER, Who::Write, PAIRS, HEADS, Who::Readback];
+        all.map(whose).into()
     }
 
     pub fn times(&self, case: (Who, &'static str)) -> usize {
@@ -95,4 +134,11 @@ impl CaseTally {
 
 fn names<T>(who: Who, cases: &[Case<T>]) -> Vec<(Who, &'static str)> {
     cases.iter().map(|(name, _)| (who, *name)).collect()
+}
+
+/// The cases of two texts, wherever they come from.
+fn texts(who: Who) -> Vec<(Who, &'static str)> {
+    [SAME, WAYS, PIECES, BYTES]
+        .map(|cases| names(who, cases))
+        .concat()
 }

@@ -9,34 +9,41 @@ use super::tally::Tally;
 use crate::make::batches::{batch, batches};
 use crate::make::captures::capture;
 use crate::make::inputs::input;
+use crate::make::readbacks::readback;
 use crate::make::rng::Rng;
 use crate::model::RIGHT;
 use std::sync::atomic::{AtomicUsize, Ordering};
 use std::sync::Mutex;
 use std::thread;
 
-/// Streams of random numbers, so that captures, batches and inputs differ.
+/// Streams of random numbers, so that the kinds of work differ.
 const CAPTURE_STREAM: u64 = 1;
 const BATCH_STREAM: u64 = 2;
 const INPUT_STREAM: u64 = 3;
+const READBACK_STREAM: u64 = 4;
 
 /// A program that is not given has no work.
 pub struct Plan {
     pub replay: Option<Program>,
     pub probe: Option<Program>,
     pub write: Option<Program>,
+    pub readback: Option<Program>,
     pub examples: Vec<Example>,
     pub seed: u64,
     pub captures: usize,
     pub calls: usize,
     pub frames: usize,
+    pub readbacks: usize,
 }
+
+type Judged = Result<(), Box<Difference>>;
 
 enum Work<'a> {
     Example(&'a Program, &'a Example),
     Capture(&'a Program, usize),
     Batch(&'a Program, usize),
     Input(&'a Program, usize),
+    Readback(&'a Program, usize),
 }
 
 impl Plan {
@@ -51,6 +58,10 @@ impl Plan {
         }
         if let Some(write) = &self.write {
             works.extend((0..self.frames).map(|number| Work::Input(write, number)));
+        }
+        if let Some(readback) = &self.readback {
+            let numbers = 0..self.readbacks;
+            works.extend(numbers.map(|number| Work::Readback(readback, number)));
         }
         works
     }
@@ -88,42 +99,61 @@ impl Plan {
         }
     }
 
-    fn judge(&self, work: &Work, tally: &mut Tally) -> Result<(), Box<Difference>> {
-        match work {
+    fn judge(&self, work: &Work, tally: &mut Tally) -> Judged {
+        match *work {
             Work::Example(program, example) => {
                 judge_example(program, example)?;
                 tally.examples += 1;
+                Ok(())
             }
-            Work::Capture(program, number) => {
-                let mut rng = Rng::for_work(self.seed, CAPTURE_STREAM, *number);
-                let sent = capture(&mut rng, *number);
-                let (verdict, listing) = RIGHT.listing(&sent);
-                let work = format!("replay capture {number}");
-                judge_output(program, work, sent, &Due::text(listing.as_bytes()))?;
-                tally.capture(verdict.number);
-            }
-            Work::Batch(program, number) => {
-                let mut rng = Rng::for_work(self.seed, BATCH_STREAM, *number);
-                let sent = batch(&mut rng, *number, self.calls);
-                let replies = RIGHT.replies(&sent);
-                for reply in &replies {
-                    tally.reply(reply, &sent[reply.request.clone()]);
-                }
-                judge_batch(program, *number, sent, &replies)?;
-            }
-            Work::Input(program, number) => {
-                let mut rng = Rng::for_work(self.seed, INPUT_STREAM, *number);
-                let sent = input(&mut rng, *number);
-                let written = RIGHT.written(&sent);
-                let due = Due {
-                    output: &written.output,
-                    errors: &written.errors,
-                    records: true,
-                };
-                judge_output(program, format!("write input {number}"), sent, &due)?;
-                tally.written(&written);
-            }
+            Work::Capture(program, number) => self.capture(program, number, tally),
+            Work::Batch(program, number) => self.batch(program, number, tally),
+            Work::Input(program, number) => self.input(program, number, tally),
+            Work::Readback(program, number) => self.readback(program, number, tally),
         }
+    }
+
+    fn capture(&self, program: &Program, number: usize, tally: &mut Tally) -> Judged {
+        let mut rng = Rng::for_work(self.seed, CAPTURE_STREAM, number);
+        let sent = capture(&mut rng, number);
+        let (verdict, listing) = RIGHT.listing(&sent);
+        let work = format!("replay capture {number}");
+        judge_output(program, work, sent, &Due::text(listing.as_bytes()))?;
+        tally.capture(verdict.number);
+        Ok(())
+    }
+
+    fn batch(&self, program: &Program, number: usize, tally: &mut Tally) -> Judged {
+        let mut rng = Rng::for_work(self.seed, BATCH_STREAM, number);
+        let sent = batch(&mut rng, number, self.calls);
+        let replies = RIGHT.replies(&sent);
+        for reply in &replies {
+            tally.reply(reply, &sent[reply.request.clone()]);
+        }
+        judge_batch(program, number, sent, &replies)
+    }
+
+    fn input(&self, program: &Program, number: usize, tally: &mut Tally) -> Judged {
+        let mut rng = Rng::for_work(self.seed, INPUT_STREAM, number);
+        let sent = input(&mut rng, number);
+        let written = RIGHT.written(&sent);
+        let due = Due {
+            output: &written.output,
+            errors: &written.errors,
+            records: true,
+        };
+        judge_output(program, format!("write input {number}"), sent, &due)?;
+        tally.written(&written);
+        Ok(())
+    }
+
+    fn readback(&self, program: &Program, number: usize, tally: &mut Tally) -> Judged {
+        let mut rng = Rng::for_work(self.seed, READBACK_STREAM, number);
+        let sent = readback(&mut rng, number);
+        let read = RIGHT.readback(&sent);
+        let due = Due::text(read.output.as_bytes());
+        judge_output(program, format!("readback input {number}"), sent, &due)?;
+        tally.readback(&read);
         Ok(())
     }
 }

@@ -7,8 +7,9 @@ use std::path::{Path, PathBuf};
 
 /// Smaller than a true run, but beyond all the fixed inputs.
 const CAPTURES: usize = 160;
-const CALLS: usize = 3_000;
+const CALLS: usize = 3_300;
 const FRAMES: usize = 200;
+const READBACKS: usize = 440;
 
 /// The fake stands beside the driver.
 fn fake() -> Result<PathBuf, String> {
@@ -28,11 +29,13 @@ fn plan(seed: u64, program: impl Fn(&str) -> Option<Program>) -> Plan {
         replay: program("replay"),
         probe: program("probe"),
         write: program("write"),
+        readback: program("readback"),
         examples: Vec::new(),
         seed,
         captures: CAPTURES,
         calls: CALLS,
         frames: FRAMES,
+        readbacks: READBACKS,
     }
 }
 

@@ -3,6 +3,7 @@
 use super::case_tally::CaseTally;
 use super::wanted::{outcomes, Who};
 use crate::model::probe::{Outcome, Reply, HEADER, LETTERS};
+use crate::model::readback::Readback;
 use crate::model::written::Written;
 use std::collections::BTreeMap;
 
@@ -11,6 +12,7 @@ pub struct Tally {
     pub examples: usize,
     pub captures: usize,
     inputs: usize,
+    readbacks: usize,
     calls: BTreeMap<u8, usize>,
     seen: BTreeMap<(Who, Outcome), usize>,
     cases: CaseTally,
@@ -34,11 +36,17 @@ impl Tally {
         self.cases.written(written);
     }
 
+    pub fn readback(&mut self, readback: &Readback) {
+        self.readbacks += 1;
+        self.add(Who::Readback, Outcome::Number(readback.number), 1);
+        self.cases.readback(readback);
+    }
+
     pub fn reply(&mut self, reply: &Reply, request: &[u8]) {
         if LETTERS.contains(&reply.letter) {
             *self.calls.entry(reply.letter).or_default() += 1;
         }
-        if b"WK".contains(&reply.letter) {
+        if b"WKNH".contains(&reply.letter) {
             let payload = request.get(HEADER..).unwrap_or_default();
             self.cases.reply(reply, payload);
         }
@@ -57,6 +65,7 @@ impl Tally {
         self.examples += other.examples;
         self.captures += other.captures;
         self.inputs += other.inputs;
+        self.readbacks += other.readbacks;
         self.cases.merge(other.cases);
         for (letter, times) in other.calls {
             *self.calls.entry(letter).or_default() += times;
@@ -90,8 +99,9 @@ impl Tally {
             .collect()
     }
 
-    /// A line for the captures, for the inputs of write_frame, for each
-    /// letter and for the requests; then the cases, of which there are many.
+    /// A line for the captures, for the inputs of write_frame and of
+    /// readback, for each letter and for the requests; then the cases, of
+    /// which there are many.
     pub fn lines(&self) -> Vec<String> {
         let mut lines = Vec::new();
         if self.examples > 0 {
@@ -101,6 +111,8 @@ impl Tally {
         lines.push(captures + &self.outcomes(Who::Replay));
         let inputs = format!("write inputs {}", self.inputs);
         lines.push(inputs + &self.outcomes(Who::Write));
+        let readbacks = format!("readback inputs {}", self.readbacks);
+        lines.push(readbacks + &self.outcomes(Who::Readback));
         for (&letter, times) in &self.calls {
             let calls = format!("{} calls {times}", char::from(letter));
             lines.push(calls + &self.outcomes(Who::Letter(letter)));
@@ -125,6 +137,7 @@ fn name(who: Who) -> String {
     match who {
         Who::Replay => "replay".into(),
         Who::Write => "write".into(),
+        Who::Readback => "readback".into(),
         Who::Letter(letter) => char::from(letter).into(),
         Who::Requests => "requests".into(),
     }

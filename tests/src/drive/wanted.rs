@@ -8,6 +8,7 @@ use crate::model::probe::Outcome;
 pub enum Who {
     Replay,
     Write,
+    Readback,
     Letter(u8),
     Requests,
 }
@@ -23,7 +24,10 @@ const NUMBERS: &[(Who, &[u32])] = &[
     (Who::Letter(b'E'), &[0, 10, 11, 12, 13]),
     (Who::Letter(b'W'), &[0, 20, 21, 22, 23, 24]),
     (Who::Letter(b'K'), &[0]),
+    (Who::Letter(b'N'), &[0]),
+    (Who::Letter(b'H'), &[0]),
     (Who::Write, &[0, 20, 21, 22, 23]),
+    (Who::Readback, &[0, 1, 3, 4, 25]),
 ];
 
 const WORDS: &[(Who, Outcome)] = &[

@@ -5,12 +5,15 @@ use super::frame_edges::{frame_edges, long_buffer};
 use super::requests::{header, lending, random, too_much, unknown_letter, Request};
 use super::rng::Rng;
 use super::states;
+use super::text_edges::{compare, text_edges};
+use super::texts::{of_byte, BYTES};
 use super::turns::{turn, TURNS};
 use crate::model::probe::LETTERS;
 
 const BATCH: usize = 300;
-/// Chosen so that a run of the default size goes through the whole table.
-const TURNS_IN_BATCH: usize = 33;
+/// Chosen so that a run of the default size goes through both whole tables.
+const TURNS_IN_BATCH: usize = 29;
+const BYTES_IN_BATCH: usize = 6;
 
 /// One batch more than the calls need: the last is an empty input.
 pub fn batches(calls: usize) -> usize {
@@ -26,10 +29,15 @@ pub fn batch(rng: &mut Rng, number: usize, calls: usize) -> Vec<u8> {
     let mut requests = match number {
         0 => edges(rng),
         1 => frame_edges(rng),
+        2 => text_edges(rng),
         _ => Vec::new(),
     };
     for place in 0..TURNS_IN_BATCH {
         requests.push(turn(rng, (number * TURNS_IN_BATCH + place) % TURNS));
+    }
+    for place in 0..BYTES_IN_BATCH {
+        let pair = of_byte(rng, (number * BYTES_IN_BATCH + place) % BYTES);
+        requests.push(compare(&pair));
     }
     while requests.len() < wanted {
         requests.push(random(rng));
@@ -46,7 +54,7 @@ pub fn batch(rng: &mut Rng, number: usize, calls: usize) -> Vec<u8> {
 /// request that is too long must not be answered.
 fn tail(rng: &mut Rng, number: usize) -> Vec<u8> {
     let letter = rng.pick(LETTERS);
-    match number % 10 {
+    match number % 11 {
         1 => {
             let long = header(letter, too_much(rng));
             followed(rng, long)
@@ -66,12 +74,16 @@ fn tail(rng: &mut Rng, number: usize) -> Vec<u8> {
             cut_payload(rng, letter)
         }
         7 => header(letter, rng.from_to(1, 40)),
-        8 | 9 => {
-            let long = long_buffer(rng, if number % 10 == 8 { b'W' } else { b'K' });
-            followed(rng, long.to_bytes())
-        }
+        8 => long_then_more(rng, b'W'),
+        9 => long_then_more(rng, b'K'),
+        10 => long_then_more(rng, b'H'),
         _ => Vec::new(),
     }
+}
+
+fn long_then_more(rng: &mut Rng, letter: u8) -> Vec<u8> {
+    let long = long_buffer(rng, letter);
+    followed(rng, long.to_bytes())
 }
 
 fn followed(rng: &mut Rng, mut bytes: Vec<u8>) -> Vec<u8> {
@@ -97,8 +109,16 @@ mod tests {
     #[test]
     fn fixed_requests_fit() {
         let mut rng = Rng::for_work(1, 1, 1);
-        for fixed in [edges(&mut rng), frame_edges(&mut rng)] {
-            assert!(fixed.len() + TURNS_IN_BATCH <= BATCH);
+        let all = [edges(&mut rng), frame_edges(&mut rng), text_edges(&mut rng)];
+        for fixed in all {
+            assert!(fixed.len() + TURNS_IN_BATCH + BYTES_IN_BATCH <= BATCH);
         }
+    }
+
+    #[test]
+    fn tables_are_gone_through() {
+        let batches = crate::drive::options::CALLS / BATCH;
+        assert!(batches * TURNS_IN_BATCH >= TURNS);
+        assert!(batches * BYTES_IN_BATCH >= BYTES);
     }
 }

@@ -98,7 +98,7 @@ pub fn sized(rng: &mut Rng, length: usize) -> Vec<u8> {
     tape.bytes
 }
 
-fn random(rng: &mut Rng) -> Vec<u8> {
+pub fn random(rng: &mut Rng) -> Vec<u8> {
     let most = match rng.below(400) {
         0 => 20_000,
         1..=49 => 500,

@@ -20,7 +20,7 @@ fn call(frame: Vec<u8>, input: usize) -> ReadCall {
     ReadCall { room, input, frame }
 }
 
-fn written(order: &Order) -> Vec<u8> {
+pub fn written(order: &Order) -> Vec<u8> {
     let mut frame = vec![0; order.size()];
     RIGHT.write_frame(order, &mut frame);
     frame

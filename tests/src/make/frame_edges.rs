@@ -1,13 +1,16 @@
 //! Requests for the writer and the reader that every run sends.
 
 use super::cells::{cell_edges, random};
+use super::heads;
 use super::order_edges::order_edges;
 use super::orders::good;
 use super::requests::{too_much, Request};
 use super::rng::Rng;
+use super::text_edges::show;
 use crate::model::frame_calls::{ReadCall, WriteCall};
 use crate::model::orders::Order;
 use crate::model::probe::LONGEST;
+use crate::model::text_calls::HeadCall;
 
 pub fn frame_edges(rng: &mut Rng) -> Vec<Request> {
     let mut requests = lengths();
@@ -58,12 +61,17 @@ fn misfits(rng: &mut Rng) -> Vec<Request> {
 /// A good request but for its buffer, which is too long.
 pub fn long_buffer(rng: &mut Rng, letter: u8) -> Request {
     let room = too_much(rng);
-    if letter == b'W' {
-        return write(room, good(rng));
+    match letter {
+        b'W' => write(room, good(rng)),
+        b'K' => read(&ReadCall {
+            room,
+            ..random(rng)
+        }),
+        _ => show(&HeadCall {
+            room,
+            ..heads::random(rng)
+        }),
     }
-    let mut call = random(rng);
-    call.room = room;
-    read(&call)
 }
 
 /// Buffers around what a frame needs; then none at all, also for orders with

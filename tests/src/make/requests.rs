@@ -1,7 +1,7 @@
 //! Random requests for the probe.
 
 use super::rng::Rng;
-use super::{captures, cells, orders, states, words};
+use super::{captures, cells, heads, orders, states, texts, words};
 use crate::model::frame_calls::WriteCall;
 use crate::model::probe::{LETTERS, LONGEST};
 
@@ -37,7 +37,7 @@ pub fn lending(image: Vec<u8>, room: usize, rest: &[u8]) -> Vec<u8> {
 }
 
 /// Letters are drawn from here, so that the busy ones come more often.
-const DRAWN: &[u8] = b"CCCCCDDDDDRRRGGGSSTTTEEEEWWWWKKK";
+const DRAWN: &[u8] = b"CCCCCDDDDDRRRGGGSSTTTEEEEWWWWKKKNNNHH";
 
 pub fn random(rng: &mut Rng) -> Request {
     let letter = rng.pick(DRAWN);
@@ -54,6 +54,8 @@ pub fn random(rng: &mut Rng) -> Request {
         b'T' => taken(rng),
         b'W' => written(rng),
         b'K' => cells::random(rng).payload(),
+        b'N' => texts::pair(rng).payload(),
+        b'H' => heads::random(rng).payload(),
         _ => words::block(rng).payload(),
     };
     Request::new(letter, payload)
@@ -136,7 +138,7 @@ fn misfit(rng: &mut Rng, letter: u8) -> Request {
 }
 
 pub fn unknown_letter(rng: &mut Rng) -> u8 {
-    let near = rng.pick(b"ABFJLQUVXZcdrgstewk\0\n ");
+    let near = rng.pick(b"ABFJLQUVXZcdrgstewknh\0\n ");
     match rng.byte() {
         letter if LETTERS.contains(&letter) || rng.once_in(2) => near,
         letter => letter,

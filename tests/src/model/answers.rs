@@ -4,6 +4,7 @@ use super::cycle::{Inputs, Routing, RECORD};
 use super::frame_calls::ReadCall;
 use super::probe::{number, plain, Line, Outcome, LENGTH, LETTERS, MOST_WORDS, STATE_AND_LENGTH};
 use super::state::{State, IMAGE};
+use super::text_calls::HeadCall;
 use super::wrong::Wrong;
 use super::Model;
 
@@ -20,8 +21,12 @@ impl Model {
             (Outcome::Malformed, !self.fits(letter, payload)),
             (Outcome::TooLong, room > self.longest()),
         ];
-        let of_order = letter == b'W' && self.has(Wrong::OrderBufferFirst);
-        let place = usize::from(self.has(Wrong::BufferFirst) || of_order);
+        let of_letter = match letter {
+            b'W' => self.has(Wrong::OrderBufferFirst),
+            b'H' => self.has(Wrong::HeadBufferFirst),
+            _ => false,
+        };
+        let place = usize::from(self.has(Wrong::BufferFirst) || of_letter);
         for (outcome, holds) in [tests[place], tests[1 - place]] {
             if holds {
                 return plain(outcome);
@@ -42,6 +47,8 @@ impl Model {
             b'E' => length >= 16 && length % 4 == 0 && (length - 16) / 4 <= MOST_WORDS,
             b'W' => self.write_call(payload).is_some(),
             b'K' => ReadCall::from_payload(payload).is_some(),
+            b'N' => self.pair(payload).is_some(),
+            b'H' => HeadCall::from_payload(payload).is_some(),
             _ => true,
         }
     }
@@ -71,6 +78,8 @@ impl Model {
             }
             b'W' => self.framed(payload, &mut buffer),
             b'K' => self.read(payload, &mut buffer),
+            b'N' => self.parted(payload),
+            b'H' => self.put_head(payload, &mut buffer),
             _ => self.evaluated(payload),
         }
     }
@@ -147,7 +156,7 @@ impl Model {
 fn room(letter: u8, payload: &[u8]) -> usize {
     let place = match letter {
         b'R' | b'G' | b'S' => IMAGE,
-        b'W' | b'K' => 0,
+        b'W' | b'K' | b'H' => 0,
         _ => return 0,
     };
     let length = payload.get(place..place + LENGTH);

@@ -107,10 +107,14 @@ impl Headers {
 pub type Held = Result<(), String>;
 
 pub fn claim(holds: bool, words: &str, t: usize, port: usize) -> Held {
+    held(holds, || format!("in cycle {t} at port {port}: {words}"))
+}
+
+pub fn held(holds: bool, told: impl FnOnce() -> String) -> Held {
     if holds {
         Ok(())
     } else {
-        Err(format!("not so in cycle {t} at port {port}: {words}"))
+        Err(format!("not so {}", told()))
     }
 }
 

@@ -80,17 +80,32 @@ fn broken(wrong: Wrong) -> Vec<&'static str> {
     failed.concat().iter().map(|(name, _)| *name).collect()
 }
 
-fn breaks(wrong: Wrong, claims: &[&str]) {
-    let broken = broken(wrong);
+/// Holds the claims that a fault has broken to those it should break.
+fn breaks(wrong: Wrong, claims: &[&str], broken: &[&str]) {
     let caught = claims.iter().all(|name| broken.contains(name));
     assert!(caught, "{wrong:?} breaks only {broken:?}");
     assert_eq!(claims.is_empty(), broken.is_empty(), "{wrong:?}");
 }
 
+/// Of these faults the listed ones break their claims, and the others none.
+pub fn listed_break(
+    faults: impl Iterator<Item = Wrong>,
+    rows: &[(Wrong, &[&str])],
+    broken: fn(Wrong) -> Vec<&'static str>,
+) {
+    let mut listed = 0;
+    for wrong in faults {
+        let row = rows.iter().find(|row| row.0 == wrong);
+        listed += usize::from(row.is_some());
+        breaks(wrong, row.map_or(&[], |row| row.1), &broken(wrong));
+    }
+    assert_eq!(listed, rows.len());
+}
+
 #[test]
 fn faults_break_claims() {
     for (wrong, claims) in BROKEN {
-        breaks(*wrong, claims);
+        breaks(*wrong, claims, &broken(*wrong));
     }
 }
 
@@ -100,13 +115,7 @@ fn faults_of_frames_break_claims() {
     let frames = kinds
         .skip_while(|&wrong| wrong != Wrong::HeadersEarly)
         .take_while(|&wrong| wrong != Wrong::LowFirst);
-    let mut listed = 0;
-    for wrong in frames {
-        let row = WRITTEN.iter().find(|row| row.0 == wrong);
-        listed += usize::from(row.is_some());
-        breaks(wrong, row.map_or(&[], |row| row.1));
-    }
-    assert_eq!(listed, WRITTEN.len());
+    listed_break(frames, WRITTEN, broken);
 }
 
 /// The kinds list the faults of the cycle rules first.

@@ -1,7 +1,6 @@
 //! The listing that the replay program prints.
 
 use super::cycle::RECORD;
-use super::state::State;
 use super::wrong::Wrong;
 use super::{Model, Verdict};
 use std::fmt::Write;
@@ -11,13 +10,7 @@ pub const HEADING: &str = "cycle ack h0 h1 h2 h3\n";
 impl Model {
     /// The verdict on a capture from reset, and all that is printed for it.
     pub fn listing(&self, capture: &[u8]) -> (Verdict, String) {
-        let capture = if self.has(Wrong::ShortLength) {
-            &capture[..capture.len() % 65_536]
-        } else {
-            capture
-        };
-        let mut answers = vec![0; capture.len()];
-        let (verdict, _) = self.replay(&State::reset(), capture, &mut answers);
+        let (verdict, answers) = self.from_reset(capture);
         let text = if verdict.number != 0 {
             self.refusal(verdict)
         } else if answers.is_empty() && self.has(Wrong::NoHeading) {
@@ -28,7 +21,7 @@ impl Model {
         (verdict, text)
     }
 
-    fn refusal(&self, verdict: Verdict) -> String {
+    pub fn refusal(&self, verdict: Verdict) -> String {
         let before = if self.has(Wrong::HeadingFirst) {
             HEADING
         } else {

@@ -1,4 +1,5 @@
-//! The model: document 01, and the rules of written frames, in ordinary code.
+//! The model: document 01, the rules of written frames and those of the
+//! read-back, in ordinary code.
 
 mod answers;
 #[cfg(test)]
@@ -18,13 +19,28 @@ mod frame_claims;
 #[cfg(test)]
 mod frame_tapes;
 pub mod gates;
+#[cfg(test)]
+mod head_claims;
+mod heads;
 pub mod listing;
+pub mod numerals;
 pub mod orders;
 pub mod probe;
+pub mod readback;
+#[cfg(test)]
+mod readback_claims;
+#[cfg(test)]
+mod readback_figures;
 mod reader;
 pub mod replay;
 pub mod saved;
+pub mod shows;
 pub mod state;
+pub mod text_calls;
+#[cfg(test)]
+mod text_catch;
+#[cfg(test)]
+mod text_claims;
 pub mod writer;
 pub mod written;
 #[cfg(test)]

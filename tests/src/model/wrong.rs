@@ -1,32 +1,6 @@
 //! The ways in which a fake can be wrong, one at a time.
 
-/// Where the mistake shows: in one program, in `Both` of replay and probe, in
-/// the two that take `Orders`, or in `All`.
-#[derive(Clone, Copy, Debug, PartialEq, Eq)]
-pub enum Shows {
-    All,
-    Both,
-    Orders,
-    Replay,
-    Probe,
-    Write,
-}
-
-/// The words by which the fake plays a program.
-pub const PROGRAMS: [&str; 3] = ["replay", "probe", "write"];
-
-impl Shows {
-    pub fn programs(self) -> &'static [&'static str] {
-        match self {
-            Shows::All => &PROGRAMS,
-            Shows::Both => &PROGRAMS[..2],
-            Shows::Orders => &PROGRAMS[1..],
-            Shows::Replay => &PROGRAMS[..1],
-            Shows::Probe => &PROGRAMS[1..2],
-            Shows::Write => &PROGRAMS[2..],
-        }
-    }
-}
+use super::shows::Shows;
 
 pub struct Kind {
     pub wrong: Wrong,
@@ -50,37 +24,37 @@ macro_rules! kinds {
 
 kinds! {
     // The cycle rules.
-    Head2E "head-2e-as-00" Both;
-    EarlyHead "head-one-cycle-early" Both;
+    Head2E "head-2e-as-00" Runs;
+    EarlyHead "head-one-cycle-early" Runs;
     AckLate "ack-one-cycle-late" Both;
     StaleAck "ack-from-shut-output" Both;
-    TurnAtHolder "turn-at-holder" Both;
-    BoardPriority "priority-over-board" Both;
-    NoPriority "priority-ignored" Both;
-    IdlePriority "priority-asks-alone" Both;
-    SpareBits "spare-bits-read" Both;
-    HeaderWhileRunning "header-while-running" Both;
-    RoutingWins "routing-beats-start" Both;
-    StartHoldsHolder "holder-stays-at-start" Both;
-    PhaseAtStart "running-after-start" Both;
-    UnaskedHolder "unasked-holder-cleared" Both;
-    ShutPasses "shut-output-passes" Both;
+    TurnAtHolder "turn-at-holder" Runs;
+    BoardPriority "priority-over-board" Runs;
+    NoPriority "priority-ignored" Runs;
+    IdlePriority "priority-asks-alone" Runs;
+    SpareBits "spare-bits-read" Runs;
+    HeaderWhileRunning "header-while-running" Runs;
+    RoutingWins "routing-beats-start" Runs;
+    StartHoldsHolder "holder-stays-at-start" Runs;
+    PhaseAtStart "running-after-start" Runs;
+    UnaskedHolder "unasked-holder-cleared" Runs;
+    ShutPasses "shut-output-passes" Runs;
     LowNotCounted "low-askers-not-counted" Probe;
     NoReportAtStart "no-report-at-start" Probe;
     GatesTurn "turn-at-holder-in-gates" Probe;
 
     // Replay.
-    FourBeforeOne "refusal-4-before-1" Both;
-    ThreeBeforeFour "refusal-3-before-4" Both;
+    FourBeforeOne "refusal-4-before-1" Runs;
+    ThreeBeforeFour "refusal-3-before-4" Runs;
     TwoBeforeFour "refusal-2-before-4" Probe;
     ThreeBeforeTwo "refusal-3-before-2" Probe;
     CaptureBeforeState "capture-before-state" Probe;
-    IndexPlusOne "index-off-by-one" Both;
-    LastIndex "index-of-last" Both;
-    BitFourUnseen "bit-4-unseen" Both;
-    LimitLow "limit-12287" Both;
-    LimitHigh "limit-12289" Both;
-    ShortLength "length-of-16-bits" Replay;
+    IndexPlusOne "index-off-by-one" Runs;
+    LastIndex "index-of-last" Runs;
+    BitFourUnseen "bit-4-unseen" Runs;
+    LimitLow "limit-12287" Runs;
+    LimitHigh "limit-12289" Runs;
+    ShortLength "length-of-16-bits" Captures;
     BeyondAnswer "byte-beyond-answer" Probe;
     PartialWrite "refused-but-written" Probe;
     RefusedReset "refused-state-reset" Probe;
@@ -89,8 +63,8 @@ kinds! {
     NoHeading "no-heading-when-empty" Replay;
     HeadingFirst "heading-before-refusal" Replay;
     HexCycle "cycle-in-hex" Replay;
-    NoIndex "index-not-printed" Replay;
-    LowerHex "lower-case-hex" Both;
+    NoIndex "index-not-printed" Captures;
+    LowerHex "lower-case-hex" Runs;
     NoLastNewline "no-last-newline" All;
     CarriageReturn "carriage-returns" All;
     TrailingBlank "trailing-blank" All;
@@ -192,6 +166,63 @@ kinds! {
     EndCut "end-said-cut-short" Write;
     SaidOnOutput "refusal-on-output" Write;
     RefusedStatus "refused-status-1" Write;
+
+    // Two texts compared, and the piece.
+    PlaceLate "place-one-late" Texts;
+    PlaceEarly "place-one-early" Texts;
+    PlaceFromOne "place-from-1" Texts;
+    PlaceHex "place-in-hex" Texts;
+    PlaceByte "place-8-bits" Probe;
+    BeginningShown "same-if-beginning-shown" Texts;
+    BeginningDue "same-if-beginning-due" Texts;
+    OtherText "piece-of-other-text" Texts;
+    Comma "run-cut-at-comma" Texts;
+    Point "run-cut-at-point" Texts;
+    Nought "run-cut-at-0" Texts;
+    Nine "run-cut-at-9" Texts;
+    Plus "2b-as-numeral" Texts;
+    Minus "2d-as-numeral" Texts;
+    Slash "2f-as-numeral" Texts;
+    Colon "3a-as-numeral" Texts;
+    HighBit "bit-7-of-numeral-unseen" Texts;
+    NotLeft "run-not-to-the-left" Texts;
+    NotRight "run-not-to-the-right" Texts;
+    OtherExtended "other-byte-extended" Texts;
+    PairCutTaken "text-beyond-payload" Probe;
+    PairLowFirst "text-length-low-first" Probe;
+    SameBare "same-without-dash" Probe;
+
+    // What a head shows.
+    ZerosKept "head-zeros-kept" Texts;
+    ZerosAtEnd "head-zeros-kept-inside" Texts;
+    ColumnBefore "head-column-before" Texts;
+    LastRecordLost "head-last-record-lost" Texts;
+    FullWraps "full-buffer-wraps" Probe;
+    FullMovesOn "full-buffer-moves-on" Probe;
+    HeadPartUnput "head-part-not-put" Probe;
+    HeadCountsAll "head-counts-all" Probe;
+    HeadByteBeyond "head-byte-beyond" Probe;
+    HeadRestCleared "head-rest-cleared" Probe;
+    HeadPartRead "head-part-of-record" Probe;
+    HeadModulo "head-modulo-4" Probe;
+    HeadBufferFirst "buffer-before-head" Probe;
+
+    // The program that reads back.
+    CutLate "refusal-25-after-capture" Readback;
+    EndRefused "refusal-25-behind-texts" Readback;
+    EmptyTaken "empty-input-taken" Readback;
+    MissingTaken "missing-texts-taken" Readback;
+    CutTaken "cut-text-taken" Readback;
+    LengthInText "length-byte-in-text" Readback;
+    LengthOfAll "length-counts-itself" Readback;
+    DueZeros "zeros-dropped-from-due" Readback;
+    ShownShort "shown-cut-at-256" Readback;
+    OutputShort "output-cut-at-65536" Readback;
+    TextsCounted "texts-counted-as-capture" Readback;
+    InputShort "input-cut-at-65536" Readback;
+    LinesExchanged "lines-exchanged" Readback;
+    LinesFirst "lines-before-refusal" Readback;
+    SameDash "same-with-dash" Readback;
 }
 
 pub fn by_name(name: &str) -> Option<Wrong> {

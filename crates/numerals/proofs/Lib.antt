@@ -1,0 +1,5 @@
+pub mod Runs
+pub mod Places
+pub mod Pieces
+pub mod Growing
+pub mod Saying

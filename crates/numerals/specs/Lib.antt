@@ -1,0 +1,4 @@
+pub mod Numeral
+pub mod Piece
+pub mod Line
+pub mod Promises

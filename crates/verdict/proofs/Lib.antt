@@ -1,0 +1,4 @@
+pub mod Verdicts
+pub mod Inputs
+pub mod Whole
+pub mod Fits

@@ -1,0 +1,25 @@
+-- What is said of both engines' replays: the listing of the answers, or the refusal line; where the two differ, where they do.
+use mathlib.Core.Bool.{cond}
+use mathlib.Core.List.{List, _++_}
+use Prim.Native.Nat.{ℕ}
+use lib.Dec.{eqb}
+use Rattle.text.specs.declared.difference.Difference.{Difference}
+use Rattle.text.specs.declared.difference.Difference.the-variants.{Same, At}
+use Rattle.text.specs.Ascii.{ascii}
+use Rattle.text.specs.Digits.{decimal}
+use Rattle.listing.specs.Listing.{listing}
+use Rattle.listing.specs.Refusal.{refusalLine}
+use Rattle.comparison.specs.declared.both.Both.{Both}
+
+unfoldable pub outcomeText : ℕ → ℕ → List ℕ → List ℕ
+outcomeText number index answers = cond (eqb number 0) (listing answers) (refusalLine number index)
+
+abbrev pub differText : ℕ → List ℕ
+differText k = ascii "engines differ at " ++ decimal k ++ ascii "\n"
+
+abbrev pub unlessDiffer : Difference → List ℕ → List ℕ
+unlessDiffer Same text = text
+unlessDiffer (At k) text = differText k
+
+abbrev pub verdictText : Both → List ℕ → List ℕ
+verdictText b answers = unlessDiffer (b .difference) (outcomeText (b .number) (b .index) answers)
