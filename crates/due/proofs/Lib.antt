@@ -1,2 +1,3 @@
 pub mod Behind
 pub mod Finding
+pub mod Sizes

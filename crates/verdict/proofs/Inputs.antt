@@ -13,31 +13,32 @@ use Rattle.capture.specs.Replay.{replayOf, replayWrites}
 use Rattle.comparison.specs.Agreement.{isSame}
 use Rattle.comparison.specs.Both.{zeros, bothOf}
 use Rattle.comparison.proofs.Inputs.{both-agree}
-use Rattle.verdict.specs.Verdict.{outcomeText, unlessDiffer, verdictText}
-use Rattle.verdict.specs.Printed.{printed}
+use Rattle.verdict.specs.Verdict.{outcomeText, unlessDiffer, verdictOf}
+use Rattle.verdict.specs.Printed.{printedBy}
 
 -- the start of the buffer of zeros, as long as a capture
 pub as-zeros : (capture : List ℕ) {buffer : List ℕ} → buffer ≡ zeros 61449 → length capture ≤ 61449 → take (length capture) buffer ≡ zeros (length capture)
 as-zeros capture e few = ap (take (length capture)) e ∙ take-replicate 0 (length capture) 61449 few
 
--- both engines on a capture, each into as many zeros: they agree, and what is to be printed is said
-module _ (capture : List ℕ) (z : List ℕ) (e : z ≡ zeros (length capture)) where
-  both-same : isSame (bothOf capture z z .difference) ≡ true
-  both-same = ap isSame (both-agree capture z)
+module _ (said : List ℕ → List ℕ) where
+  -- both engines on a capture, each into as many zeros: they agree, and what is to be printed is said
+  module _ (capture : List ℕ) (z : List ℕ) (e : z ≡ zeros (length capture)) where
+    both-same : isSame (bothOf capture z z .difference) ≡ true
+    both-same = ap isSame (both-agree capture z)
 
-  both-text : verdictText (bothOf capture z z) (replayWrites resetMachine capture z) ≡ printed capture
-  unfolding printed
-  both-text =
-      let long : length z ≡ length capture = ap length e ∙ length-replicate (length capture) 0 in
-      ap (λ (d : Difference). unlessDiffer d (outcomeText (replayOf resetMachine capture (length z) .number) (replayOf resetMachine capture (length z) .index) (replayWrites resetMachine capture z))) (both-agree capture z)
-      ∙ ap (λ (n : ℕ). outcomeText (replayOf resetMachine capture n .number) (replayOf resetMachine capture n .index) (replayWrites resetMachine capture z)) long
-      ∙ ap (λ (l : List ℕ). outcomeText (replayOf resetMachine capture (length capture) .number) (replayOf resetMachine capture (length capture) .index) (replayWrites resetMachine capture l)) e
+    both-text : verdictOf said (bothOf capture z z) (replayWrites resetMachine capture z) ≡ printedBy said capture
+    unfolding printedBy
+    both-text =
+        let long : length z ≡ length capture = ap length e ∙ length-replicate (length capture) 0 in
+        ap (λ (d : Difference). unlessDiffer d (outcomeText said (replayOf resetMachine capture (length z) .number) (replayOf resetMachine capture (length z) .index) (replayWrites resetMachine capture z))) (both-agree capture z)
+        ∙ ap (λ (n : ℕ). outcomeText said (replayOf resetMachine capture n .number) (replayOf resetMachine capture n .index) (replayWrites resetMachine capture z)) long
+        ∙ ap (λ (l : List ℕ). outcomeText said (replayOf resetMachine capture (length capture) .number) (replayOf resetMachine capture (length capture) .index) (replayWrites resetMachine capture l)) e
 
-pub both-said : (capture plain gates whole : List ℕ) {agreed : Bool} {before after : Page} → plain ≡ zeros (length capture) → gates ≡ zeros (length capture) → capture ≡ whole
-    → (agreed ≡ isSame (bothOf capture plain gates .difference)) × Wrote before (verdictText (bothOf capture plain gates) (replayWrites resetMachine capture plain)) after
-    → (agreed ≡ true) × Wrote before (printed whole) after
-both-said capture plain gates whole ep eg ew said =
-    let same : gates ≡ plain = eg ∙ sym ep in (
-      said .0 ∙ ap (λ (g : List ℕ). isSame (bothOf capture plain g .difference)) same ∙ both-same capture plain ep,
-      spelt (said .1) (ap (λ (g : List ℕ). verdictText (bothOf capture plain g) (replayWrites resetMachine capture plain)) same ∙ both-text capture plain ep ∙ ap printed ew),
-    )
+  pub both-said : (capture plain gates whole : List ℕ) {agreed : Bool} {before after : Page} → plain ≡ zeros (length capture) → gates ≡ zeros (length capture) → capture ≡ whole
+      → (agreed ≡ isSame (bothOf capture plain gates .difference)) × Wrote before (verdictOf said (bothOf capture plain gates) (replayWrites resetMachine capture plain)) after
+      → (agreed ≡ true) × Wrote before (printedBy said whole) after
+  both-said capture plain gates whole ep eg ew w =
+      let same : gates ≡ plain = eg ∙ sym ep in (
+        w .0 ∙ ap (λ (g : List ℕ). isSame (bothOf capture plain g .difference)) same ∙ both-same capture plain ep,
+        spelt (w .1) (ap (λ (g : List ℕ). verdictOf said (bothOf capture plain g) (replayWrites resetMachine capture plain)) same ∙ both-text capture plain ep ∙ ap (printedBy said) ew),
+      )

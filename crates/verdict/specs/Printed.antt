@@ -6,13 +6,17 @@ use lib.ListN.{length, take}
 use Rattle.fabric.specs.Run.{resetMachine}
 use Rattle.capture.specs.Replay.{replayOf, replayWrites}
 use Rattle.text.specs.Page.{page, Wrote}
+use Rattle.listing.specs.Listing.{listing}
 use Rattle.comparison.specs.Both.{zeros, kept}
 use Rattle.verdict.specs.Verdict.{outcomeText}
 
--- what is to be printed of a capture, replayed from reset into a buffer of its own length
-unfoldable pub printed : List ℕ → List ℕ
-printed capture =
-    outcomeText (replayOf resetMachine capture (length capture) .number) (replayOf resetMachine capture (length capture) .index) (replayWrites resetMachine capture (zeros (length capture)))
+-- what is to be printed of a capture, replayed from reset into a buffer of its own length, if `said` is said of its answers
+unfoldable pub printedBy : (List ℕ → List ℕ) → List ℕ → List ℕ
+printedBy said capture =
+    outcomeText said (replayOf resetMachine capture (length capture) .number) (replayOf resetMachine capture (length capture) .index) (replayWrites resetMachine capture (zeros (length capture)))
+
+abbrev pub printed : List ℕ → List ℕ
+printed = printedBy listing
 
 -- What is printed of the kept bytes is what would be printed of the whole input.
 abbrev pub WholeInput : Type 0

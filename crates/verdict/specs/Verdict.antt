@@ -1,4 +1,4 @@
--- What is said of both engines' replays: the listing of the answers, or the refusal line; where the two differ, where they do.
+-- What is said of both engines' replays: something of the answers, or the refusal line; where the two differ, where they do.
 use mathlib.Core.Bool.{cond}
 use mathlib.Core.List.{List, _++_}
 use Prim.Native.Nat.{ℕ}
@@ -11,8 +11,9 @@ use Rattle.listing.specs.Listing.{listing}
 use Rattle.listing.specs.Refusal.{refusalLine}
 use Rattle.comparison.specs.declared.both.Both.{Both}
 
-unfoldable pub outcomeText : ℕ → ℕ → List ℕ → List ℕ
-outcomeText number index answers = cond (eqb number 0) (listing answers) (refusalLine number index)
+-- of a replay that is done what `said` makes of its answers, otherwise the refusal line
+unfoldable pub outcomeText : (List ℕ → List ℕ) → ℕ → ℕ → List ℕ → List ℕ
+outcomeText said number index answers = cond (eqb number 0) (said answers) (refusalLine number index)
 
 abbrev pub differText : ℕ → List ℕ
 differText k = ascii "engines differ at " ++ decimal k ++ ascii "\n"
@@ -21,5 +22,9 @@ abbrev pub unlessDiffer : Difference → List ℕ → List ℕ
 unlessDiffer Same text = text
 unlessDiffer (At k) text = differText k
 
+abbrev pub verdictOf : (List ℕ → List ℕ) → Both → List ℕ → List ℕ
+verdictOf said b answers = unlessDiffer (b .difference) (outcomeText said (b .number) (b .index) answers)
+
+-- the program replay lists the answers
 abbrev pub verdictText : Both → List ℕ → List ℕ
-verdictText b answers = unlessDiffer (b .difference) (outcomeText (b .number) (b .index) answers)
+verdictText = verdictOf listing

@@ -1,6 +1,7 @@
 // What is said of both engines' replays of one capture.
 ghost use mathlib.Core.Path.{_≡_};
 ghost use Rattle.text.specs.Page.{page, Wrote};
+ghost use Rattle.listing.specs.Listing.{listing};
 ghost use Rattle.comparison.specs.Agreement.{isSame};
 ghost use Rattle.verdict.specs.Verdict.{outcomeText, differText, verdictText};
 use comparison::Both;
@@ -13,7 +14,7 @@ pub struct Verdict {
 }
 
 fn put_outcome(out: &mut [u8], number: u8, index: usize, answers: &[u8]) -> usize
-    ensures { λ r. ⌜ Wrote (page (now (out .entry)) 0) (outcomeText number index (now (answers .entry))) (page (now (out .exit)) r) ⌝ }
+    ensures { λ r. ⌜ Wrote (page (now (out .entry)) 0) (outcomeText listing number index (now (answers .entry))) (page (now (out .exit)) r) ⌝ }
 {
     if number == 0 {
         listing::put_listing(out, 0, answers)

@@ -1,5 +1,5 @@
-//! The cases of cells read, and of requests for frames answered in words,
-//! that a run must see.
+//! The cases of cells read, and of requests with a buffer that are answered
+//! in words, that a run must see.
 
 use super::cases::Case;
 use crate::model::cycle::{Inputs, RECORD};

@@ -9,7 +9,7 @@ use std::path::{Path, PathBuf};
 const CAPTURES: usize = 160;
 const CALLS: usize = 3_300;
 const FRAMES: usize = 200;
-const READBACKS: usize = 440;
+const READBACKS: usize = 480;
 
 /// The fake stands beside the driver.
 fn fake() -> Result<PathBuf, String> {

@@ -43,11 +43,11 @@ pub fn head_edges() -> Vec<HeadCall> {
             calls.push(HeadCall { room, ..call });
         }
     }
-    for (room, head) in (0..14).map(|n| (n / 2, 2 * (n as u8 % 2) + 1)) {
-        calls.push(HeadCall {
+    for room in 0..7 {
+        calls.extend([1, 3].map(|head| HeadCall {
             room,
             ..call(answers.clone(), head)
-        });
+        }));
     }
     for lost in 1..=2 * RECORD + 1 {
         let part = &answers[..answers.len() - lost];

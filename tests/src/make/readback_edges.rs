@@ -85,7 +85,7 @@ const NEAR: usize = 11;
 
 pub const LONGS: usize = TEXTS.len() * AROUND.len() * NEAR * 2;
 
-/// Some have a bad record too, which then is not the reason to refuse them.
+/// Half of them have a bad record too, which counts only within the limit.
 pub fn long(rng: &mut Rng, number: usize) -> Vec<u8> {
     let (near, rest) = (number % NEAR, number / NEAR);
     let around = AROUND[rest % AROUND.len()] + near - NEAR / 2;

@@ -8,7 +8,7 @@ use crate::model::probe::{LENGTH, LONGEST};
 use crate::model::text_calls::{HeadCall, Pair};
 
 /// What is due, and what is shown.
-pub const PAIRS: &[(&[u8], &[u8])] = &[
+const PAIRS: &[(&[u8], &[u8])] = &[
     // Nothing at all, in both or in one.
     (b"", b""),
     (b"", b"2.5"),

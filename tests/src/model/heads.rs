@@ -18,8 +18,8 @@ impl Model {
             false => &text[..room],
         };
         buffer[..put.len()].copy_from_slice(put);
-        if self.has(Wrong::FullWraps) {
-            for (place, &byte) in text.iter().enumerate().filter(|_| room > 0) {
+        if self.has(Wrong::FullWraps) && room > 0 {
+            for (place, &byte) in text.iter().enumerate() {
                 buffer[place % room] = byte;
             }
         }

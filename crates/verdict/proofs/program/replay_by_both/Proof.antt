@@ -1,6 +1,7 @@
 use native.Mathlib.Omega.{arith}
 use lib.ListN.{length}
 use borrow.Author.Needs.{needs}
+use Rattle.listing.specs.Listing.{listing}
 use Rattle.text.proofs.Lists.{part-length}
 use Rattle.verdict.proofs.Inputs.{as-zeros, both-said}
 use Rattle.verdict.proofs.program.replay_by_both.Statement.{statement}
@@ -11,7 +12,7 @@ returns c =
     let kept = c .before .before .before .before .before .before .before .before .before .before .kept in
     let few = kept .ensures .1 in
     let capture = kept .result .now in
-    both-said capture _ _ _ (as-zeros capture (c .before .before .before .before .before .before .before .before .before .zeros .ensures) few) (as-zeros capture (c .before .before .before .before .before .before .before .before .zeros2 .ensures) few) (kept .ensures .0) (c .before .before .before .before .replay-into .ensures)
+    both-said listing capture _ _ _ (as-zeros capture (c .before .before .before .before .before .before .before .before .before .zeros .ensures) few) (as-zeros capture (c .before .before .before .before .before .before .before .before .zeros2 .ensures) few) (kept .ensures .0) (c .before .before .before .before .replay-into .ensures)
 
 pub replay-by-both-spec : {M : Type 1} → statement M
 replay-by-both-spec =
