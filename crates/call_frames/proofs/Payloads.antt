@@ -9,12 +9,12 @@ use borrow.Author.Tests.{le-leb, lt-leb, leb-true}
 use Rattle.text.proofs.Lists.{part-all}
 use Rattle.routing.proofs.Equal.{two}
 use Rattle.routing.proofs.Fours.{and-left}
-use Rattle.parts.specs.Parts.{wordAt}
+use Rattle.parts.specs.Parts.{wordAt, bufferText}
 use Rattle.plans.specs.Refusal.{writeRefusal}
 use Rattle.frames.specs.Writing.{frameWrites}
 use Rattle.frames.specs.Reading.{cellIn, cellWrites}
 use Rattle.orders.specs.Order.{orderSize, planOf}
-use Rattle.call_frames.specs.Calls.{asksFrame, bufferText, writeText, readText}
+use Rattle.call_frames.specs.Calls.{asksFrame, writeText, readText}
 
 module _ (payload : List ℕ) where
   pub too-short : length payload < 4 → false ≡ asksFrame payload

@@ -1,19 +1,15 @@
 -- W: the length of a buffer and an order; the refusal's number or 0, the buffer after. K: the length of a buffer, an input and the records of a
 -- frame; how many bytes the input's cell has, the buffer after. Lengths and inputs are numbers of four bytes.
 use mathlib.Core.Bool.{Bool, cond, _&&_}
-use mathlib.Core.List.{List, _++_}
+use mathlib.Core.List.{List}
 use Prim.Native.Nat.{ℕ, _-_}
 use lib.Dec.{eqb, leb, ltb}
 use lib.ListN.{length, drop}
-use Rattle.text.specs.Ascii.{ascii}
-use Rattle.parts.specs.Parts.{wordAt, marked, roomAt, numberText, bytesText, malformed}
+use Rattle.parts.specs.Parts.{wordAt, marked, roomAt, bufferText, malformed}
 use Rattle.plans.specs.Refusal.{writeRefusal}
 use Rattle.frames.specs.Writing.{frameWrites}
 use Rattle.frames.specs.Reading.{cellIn, cellWrites}
 use Rattle.orders.specs.Order.{orderSize, planOf}
-
-abbrev pub bufferText : ℕ → List ℕ → List ℕ
-bufferText n buffer = numberText n ++ bytesText buffer ++ ascii "\n"
 
 -- one order stands behind the length, and nothing behind that
 abbrev pub asksFrame : List ℕ → Bool

@@ -3,16 +3,7 @@ ghost use mathlib.Core.Path.{_≡_};
 ghost use Prim.Native.Nat.{_≤_};
 ghost use lib.ListN.{length};
 ghost use Rattle.text.specs.Page.{page, Wrote};
-ghost use Rattle.call_frames.specs.Calls.{asksFrame, bufferText, writeText, writeLine, readText, readLine};
-
-// A number, and the buffer after the call.
-fn put_buffer(out: &mut [u8], n: u64, buffer: &[u8]) -> usize
-    ensures { λ r. ⌜ Wrote (page (now (out .entry)) 0) (bufferText n (now (buffer .entry))) (page (now (out .exit)) r) ⌝ }
-{
-    let a = parts::put_number(&mut *out, 0, n);
-    let b = parts::put_bytes(&mut *out, a, buffer);
-    text::put_byte(out, b, b'\n')
-}
+ghost use Rattle.call_frames.specs.Calls.{asksFrame, writeText, writeLine, readText, readLine};
 
 // Whether a payload has one order behind its buffer length, and nothing behind that.
 pub fn asks_frame(payload: &[u8]) -> bool
@@ -29,7 +20,7 @@ fn put_write_into(out: &mut [u8], payload: &[u8], buffer: &mut [u8]) -> usize
     ensures { λ r. ⌜ Wrote (page (now (out .entry)) 0) (writeText (now (payload .entry)) (now (buffer .entry))) (page (now (out .exit)) r) ⌝ }
 {
     let number = orders::write_order(&mut *buffer, &payload[4..]);
-    put_buffer(out, number as u64, buffer)
+    parts::put_buffer(out, number as u64, buffer)
 }
 
 pub fn put_write(out: &mut [u8], payload: &[u8]) -> usize
@@ -49,7 +40,7 @@ fn put_read_into(out: &mut [u8], payload: &[u8], buffer: &mut [u8]) -> usize
 {
     let input = parts::word_at(payload, 4) as usize;
     let n = frames::read_cell(&mut *buffer, &payload[8..], input);
-    put_buffer(out, n as u64, buffer)
+    parts::put_buffer(out, n as u64, buffer)
 }
 
 pub fn put_read(out: &mut [u8], payload: &[u8]) -> usize

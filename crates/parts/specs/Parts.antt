@@ -35,3 +35,7 @@ stateText m = hexes (imageOf m)
 -- no bytes are shown as a dash
 abbrev pub bytesText : List ℕ → List ℕ
 bytesText bytes = cond (eqb (length bytes) 0) (ascii "-") (hexes bytes)
+
+-- a number, and the buffer after a call
+abbrev pub bufferText : ℕ → List ℕ → List ℕ
+bufferText n buffer = numberText n ++ bytesText buffer ++ ascii "\n"

@@ -4,6 +4,7 @@ mod parts;
 
 pub use parts::long_at;
 pub use parts::marks;
+pub use parts::put_buffer;
 pub use parts::put_bytes;
 pub use parts::put_number;
 pub use parts::put_state;

@@ -4,7 +4,7 @@ ghost use mathlib.Core.Path.{_≡_};
 ghost use Prim.Native.Nat.{_<_, _≤_};
 ghost use Rattle.text.specs.Page.{page, Wrote};
 ghost use Rattle.fabric.specs.Cycle.{machine};
-ghost use Rattle.parts.specs.Parts.{wordAt, longAt, marked, roomAt, bytesText, stateText, numberText};
+ghost use Rattle.parts.specs.Parts.{wordAt, longAt, marked, roomAt, bytesText, stateText, numberText, bufferText};
 use states::State;
 
 fn wide(b: u8) -> u64
@@ -79,4 +79,13 @@ pub fn put_bytes(out: &mut [u8], place: usize, bytes: &[u8]) -> usize
     } else {
         text::put_hex(out, place, bytes)
     }
+}
+
+// A number, and the buffer after the call.
+pub fn put_buffer(out: &mut [u8], n: u64, buffer: &[u8]) -> usize
+    ensures { λ r. ⌜ Wrote (page (now (out .entry)) 0) (bufferText n (now (buffer .entry))) (page (now (out .exit)) r) ⌝ }
+{
+    let a = put_number(&mut *out, 0, n);
+    let b = put_bytes(&mut *out, a, buffer);
+    text::put_byte(out, b, b'\n')
 }

@@ -2,7 +2,7 @@
 ghost use mathlib.Core.Bool.{true};
 ghost use mathlib.Core.Path.{_≡_};
 ghost use Prim.Native.Nat.{_-_, _≤_};
-ghost use lib.ListN.{length};
+ghost use lib.ListN.{length, take};
 ghost use Rattle.text.specs.Page.{page, Wrote};
 ghost use Rattle.fabric.specs.Run.{resetMachine};
 ghost use Rattle.capture.specs.Replay.{replayWrites};
@@ -46,21 +46,28 @@ fn capture_kept(bytes: &[u8], total: u64) -> &[u8]
     comparison::kept(rest, less(total, size))
 }
 
-// `bytes` are what is kept of an input of `total` bytes.
-pub fn read_back(bytes: &[u8], total: u64, out: &mut [u8]) -> Verdict
+fn read_start(input: &[u8], total: u64, out: &mut [u8]) -> Verdict
     ensures agreed { λ r. ⌜ r .agreed ≡ true ⌝ }
-    ensures writes { λ r. ⌜ Wrote (page (now (out .entry)) 0) (readKept (now (bytes .entry)) total) (page (now (out .exit)) (r .length)) ⌝ }
+    ensures writes { λ r. ⌜ Wrote (page (now (out .entry)) 0) (readKept (now (input .entry)) total) (page (now (out .exit)) (r .length)) ⌝ }
 {
-    if due::ends_inside(bytes) {
+    if due::ends_inside(input) {
         let length = listing::put_refusal(out, 0, 25, 0);
         return Verdict {
             agreed: true,
             length,
         };
     }
-    let capture = capture_kept(bytes, total);
+    let capture = capture_kept(input, total);
     let n = capture.len();
     let mut plain = comparison::zeros();
     let mut gates = comparison::zeros();
-    read_into(bytes, capture, &mut plain[..n], &mut gates[..n], out)
+    read_into(input, capture, &mut plain[..n], &mut gates[..n], out)
+}
+
+// An input of `total` bytes stands at the start of `bytes`, or as much of it as has room there.
+pub fn read_back(bytes: &[u8], total: u64, out: &mut [u8]) -> Verdict
+    ensures agreed { λ r. ⌜ r .agreed ≡ true ⌝ }
+    ensures writes { λ r. ⌜ Wrote (page (now (out .entry)) 0) (readKept (take total (now (bytes .entry))) total) (page (now (out .exit)) (r .length)) ⌝ }
+{
+    read_start(text::part(bytes, 0, total as usize), total, out)
 }

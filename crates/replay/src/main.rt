@@ -1,29 +1,13 @@
 // Replays standard input from reset by both engines and prints the listing or the refusal line; where the engines differ, nothing but where they
 // do, on standard error.
 ghost use mathlib.Core.Path.{_≡_};
-ghost use Prim.Native.Nat.{_≤_};
 ghost use lib.ListN.{length};
-use verdict::Verdict;
 
 // Room for the longest listing.
 fn blank_page() -> [u8; 262144]
     ensures { λ r. ⌜ 262144 ≡ length r ⌝ }
 {
     [0; 262144]
-}
-
-fn say(v: Verdict, page: &[u8])
-    requires { ⌜ v .length ≤ length (now page) ⌝ }
-{
-    let length = v.length;
-    let stream = if v.agreed {
-        libc::STDOUT_FILENO
-    } else {
-        libc::STDERR_FILENO
-    };
-    if !io::write_all(stream, &page[..length]) {
-        io::write_all(libc::STDERR_FILENO, b"cannot write the listing\n");
-    }
 }
 
 fn main() {
@@ -35,5 +19,6 @@ fn main() {
     }
     let mut page = blank_page();
     let v = verdict::replay_by_both(&kept, taken.total, &mut page);
-    say(v, &page);
+    let n = v.length;
+    output::say(v.agreed, &page[..n], b"cannot write the listing\n");
 }

@@ -7,7 +7,7 @@ use native.Mathlib.Omega.{arith}
 use native.Mathlib.Numerals.{add-one}
 use lib.Dec.{ltb}
 use lib.ListN.{length, take, drop, set, length-set, take-append-drop}
-use lib.Seq.{take-suc-set, drop-set-lt, append-snoc, take-append-seam}
+use lib.Seq.{take-suc-set, drop-set-lt, append-snoc, take-append-seam, length-take-le}
 use borrow.Author.Tests.{ltb-true}
 use Rattle.text.specs.Page.{Page, page, put, puts, Wrote}
 use Rattle.text.proofs.Pages.{put-there}
@@ -27,6 +27,10 @@ puts-within p (b ∷ text) h = puts-within (put p b) text (put-within p b (ltb (
 pub within : {bytes after text : List ℕ} {next : ℕ} → Wrote (page bytes 0) text (page after next) → next ≤ length after
 within {bytes = bytes} {text = text} w =
     let start : 0 ≤ length bytes = omega arith in subst (λ (q : Page). q .place ≤ length (q .bytes)) (sym (w .left)) (puts-within (page bytes 0) text start)
+
+-- so many bytes are there to be read from the page's start
+pub counted : {bytes after text : List ℕ} {next : ℕ} → Wrote (page bytes 0) text (page after next) → next ≡ length (take next after)
+counted {after = after} {next = next} w = sym (length-take-le next after (within w))
 
 -- a text that has room: the bytes before it and after it stay, and the place moves by its length
 has-room : (bytes : List ℕ) (place : ℕ) (text : List ℕ) → place + length text ≤ length bytes

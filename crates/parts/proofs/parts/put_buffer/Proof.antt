@@ -1,7 +1,7 @@
 use borrow.Author.Needs.{needs}
 use Rattle.text.proofs.Pages.{_then_}
-use Rattle.call_frames.proofs.calls.put_buffer.Statement.{statement}
-use Rattle.call_frames.proofs.calls.put_buffer.Tie as tie
+use Rattle.parts.proofs.parts.put_buffer.Statement.{statement}
+use Rattle.parts.proofs.parts.put_buffer.Tie as tie
 
 returns : tie.Need-returns
 returns c = c .before .before .before .before .before .before .before .before .before .before .put-number .ensures then c .before .before .before .before .before .before .put-bytes .ensures then c .before .before .put-byte .ensures
