@@ -70,10 +70,10 @@ module _ (t0 t1 t2 t3 capture : List ℕ) where
   all-found = (
     none-of (cut (inputOf texts capture)) none-cut,
     four-equal
-    (found capture texts 0 t0 (t1 ∷ t2 ∷ t3 ∷ []) (omega arith) refl)
-    (found capture texts 1 t1 (t2 ∷ t3 ∷ []) (omega arith) refl)
-    (found capture texts 2 t2 (t3 ∷ []) (omega arith) refl)
-    (found capture texts 3 t3 [] (omega arith) refl),
+        (found capture texts 0 t0 (t1 ∷ t2 ∷ t3 ∷ []) (omega arith) refl)
+        (found capture texts 1 t1 (t2 ∷ t3 ∷ []) (omega arith) refl)
+        (found capture texts 2 t2 (t3 ∷ []) (omega arith) refl)
+        (found capture texts 3 t3 [] (omega arith) refl),
     passed capture 4 texts (omega arith),
   )
 

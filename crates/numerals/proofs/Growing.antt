@@ -37,10 +37,10 @@ module _ (text : List ℕ) where
     ended = b .ended;
   }
     where
-    by : (t : Bool) (j : ℕ) → ltb j k ≡ t → from ≤ j → j < suc k → Numeral text j
-    by true j e h i = b .all j h (ltb-true _ _ e)
-    by false j e h i =
-        let last : k ≡ j = omega (arith, i, ltb-false j k e) in ap (λ (n : ℕ). numeral (getD text n 0)) (sym last) ∙ is
+      by : (t : Bool) (j : ℕ) → ltb j k ≡ t → from ≤ j → j < suc k → Numeral text j
+      by true j e h i = b .all j h (ltb-true _ _ e)
+      by false j e h i =
+          let last : k ≡ j = omega (arith, i, ltb-false j k e) in ap (λ (n : ℕ). numeral (getD text n 0)) (sym last) ∙ is
 
   none : (k : ℕ) → Other text k → Back (suc k) (suc k)
   none k not = record {
@@ -68,9 +68,9 @@ record Ahead (text : List ℕ) (n : ℕ) : Type 0 where
 ahead-by : (t : Bool) (b : ℕ) (text : List ℕ) → numeral b ≡ t → Ahead text (leading text) → Ahead (b ∷ text) (cond t (suc (leading text)) 0)
 ahead-by true b text e a = record { most = omega (arith, a .most); all = by; ended = a .ended }
   where
-  by : (j : ℕ) → j < suc (leading text) → Numeral (b ∷ text) j
-  by zero i = e
-  by (suc j) i = a .all j (omega (arith, i))
+    by : (j : ℕ) → j < suc (leading text) → Numeral (b ∷ text) j
+    by zero i = e
+    by (suc j) i = a .all j (omega (arith, i))
 ahead-by false b text e a = record { most = omega arith; all = λ j i. absurd (omega (arith, i)); ended = e }
 
 -- past the end of a text there is no numeral byte
@@ -106,22 +106,23 @@ module _ (text : List ℕ) (k : ℕ) where
   no-further : (from to at : ℕ) → ((j : ℕ) → from ≤ j → j < to → Numeral text j) → from ≤ at → Other text at → to ≤ at
   no-further from to at all h not = by (ltb at to) refl
     where
-    by : (t : Bool) → ltb at to ≡ t → to ≤ at
-    by true e = absurd (clash (all at h (ltb-true _ _ e)) not)
-    by false e = ltb-false _ _ e
+      by : (t : Bool) → ltb at to ≡ t → to ≤ at
+      by true e = absurd (clash (all at h (ltb-true _ _ e)) not)
+      by false e = ltb-false _ _ e
 
   -- numeral bytes from place `from` on cannot begin before the run does
   no-earlier : (from to : ℕ) → ((j : ℕ) → from ≤ j → j < to → Numeral text j) → k < to → runBegins text k ≤ from
   no-earlier from to all i = by (ltb from (runBegins text k)) refl
     where
-    b : Back text k (runBegins text k)
-    b = back text k
-    by : (t : Bool) → ltb from (runBegins text k) ≡ t → runBegins text k ≤ from
-    by true e =
-        let less : from < runBegins text k = ltb-true _ _ e in
-        let at : ℕ = runBegins text k - 1 in
-        absurd (clash (all at (omega (arith, less)) (omega (arith, i, b .low))) (b .ended at (omega (arith, less))))
-    by false e = ltb-false _ _ e
+      b : Back text k (runBegins text k)
+      b = back text k
+
+      by : (t : Bool) → ltb from (runBegins text k) ≡ t → runBegins text k ≤ from
+      by true e =
+          let less : from < runBegins text k = ltb-true _ _ e in
+          let at : ℕ = runBegins text k - 1 in
+          absurd (clash (all at (omega (arith, less)) (omega (arith, i, b .low))) (b .ended at (omega (arith, less))))
+      by false e = ltb-false _ _ e
 
   module _ (is : Numeral text k) where
     run-begins : begins text k ≡ runBegins text k
@@ -145,9 +146,9 @@ module _ (text : List ℕ) (k : ℕ) where
     run-all : (j : ℕ) → begins text k ≤ j → j < ends text k → Numeral text j
     run-all j h i = by (ltb j k) refl
       where
-      by : (t : Bool) → ltb j k ≡ t → Numeral text j
-      by true e = back text k .all j (omega (arith, run-begins, h)) (ltb-true _ _ e)
-      by false e = ends-all j (ltb-false _ _ e) (omega (arith, run-ends, i))
+        by : (t : Bool) → ltb j k ≡ t → Numeral text j
+        by true e = back text k .all j (omega (arith, run-begins, h)) (ltb-true _ _ e)
+        by false e = ends-all j (ltb-false _ _ e) (omega (arith, run-ends, i))
 
   module _ (not : Other text k) where
     byte-begins : begins text k ≡ k

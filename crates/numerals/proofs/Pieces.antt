@@ -40,7 +40,7 @@ module _ (station head : List ℕ) (k : ℕ) where
       let past : length station ≤ k = ltb-false _ _ e in
       let l : length head ≡ length (holding station head k) = ap length (in-head past) in
       beyond (ltb k (length head)) refl past l
-      where
+    where
       beyond : (t : Bool) → ltb k (length head) ≡ t → length station ≤ k → length head ≡ length (holding station head k) → k < length (holding station head k)
       beyond true f past l =
           let less : k < length head = ltb-true _ _ f in omega (arith, less, l)

@@ -104,16 +104,14 @@ pub nothing-differs : NothingDiffers
 nothing-differs station head = (alike 0 station head, λ e. ap (differenceFrom 0 station) (sym e) ∙ itself station 0)
 
 pub place-found : PlaceFound
-place-found station head k =
-    (
-      λ e.
+place-found station head k = (
+  λ e.
       let f = found 0 station head k e in
-      let far : f .far ≡ k = omega (arith, f .there) in
-      (
+      let far : f .far ≡ k = omega (arith, f .there) in (
         ap (λ (n : ℕ). take n station) (sym far) ∙ f .agree ∙ ap (λ (n : ℕ). take n head) far,
         λ h. f .differ (ap (byteThere station) far ∙ h ∙ ap (byteThere head) (sym far)),
       ),
-      λ e h.
+  λ e h.
       let n : 0 + k ≡ k = omega arith in
       only 0 k station head e h ∙ ap At n,
-    )
+)

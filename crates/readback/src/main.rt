@@ -14,7 +14,10 @@ fn main() {
     let mut kept = io::large_buffer();
     let taken = input::take_in(&mut kept);
     if taken.failed {
-        io::write_all(libc::STDERR_FILENO, b"cannot read the texts and the capture\n");
+        io::write_all(
+            libc::STDERR_FILENO,
+            b"cannot read the texts and the capture\n",
+        );
         return;
     }
     let mut page = blank_page();

@@ -14,7 +14,13 @@ ghost use Rattle.readings.specs.ReadBack.{captureKept, readKept};
 use super::lines;
 use verdict::Verdict;
 
-fn read_into(input: &[u8], capture: &[u8], plain: &mut [u8], gates: &mut [u8], out: &mut [u8]) -> Verdict
+fn read_into(
+    input: &[u8],
+    capture: &[u8],
+    plain: &mut [u8],
+    gates: &mut [u8],
+    out: &mut [u8],
+) -> Verdict
     requires { ⌜ length (now plain) ≤ 61449 ⌝ }
     ensures agreed { λ r. ⌜ r .agreed ≡ isSame (bothOf (now (capture .entry)) (now (plain .entry)) (now (gates .entry)) .difference) ⌝ }
     ensures writes { λ r. ⌜ Wrote (page (now (out .entry)) 0) (verdictOf (fourLines (now (input .entry))) (bothOf (now (capture .entry)) (now (plain .entry)) (now (gates .entry))) (replayWrites resetMachine (now (capture .entry)) (now (plain .entry)))) (page (now (out .exit)) (r .length)) ⌝ }

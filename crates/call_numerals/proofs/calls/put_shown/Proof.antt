@@ -1,69 +1,28 @@
+use mathlib.Core.Path.{ap, _∙_}
 use borrow.Author.Needs.{needs}
+use borrow.Author.Tests.{lt-ltb, le-ltb}
+use Rattle.text.proofs.Lists.{part-length}
+use Rattle.text.proofs.Pages.{spelt}
+use Rattle.parts.proofs.Lent.{marks-cut}
+use Rattle.call_numerals.specs.Calls.{shownText, shownLine}
 use Rattle.call_numerals.proofs.calls.put_shown.Statement.{statement}
 use Rattle.call_numerals.proofs.calls.put_shown.Tie as tie
-use Rattle.call_numerals.proofs.calls.put_shown.Reads as reads
-use Rattle.call_numerals.proofs.calls.put_shown.Lts as lts
-use Rattle.call_numerals.proofs.calls.put_shown_into.Reads as put-shown-into-reads
-use Rattle.parts.proofs.marks.Reads as marks-reads
-use Rattle.parts.proofs.room_at.Reads as room-at-reads
-use Rattle.text.proofs.put_text.Reads as put-text-reads
 
--- src/calls.rt:51:39
-slice-aggregate-put-text : tie.Need-slice-aggregate-put-text
-slice-aggregate-put-text c = search needs
-
--- src/calls.rt:51:9
-put-text-requires : tie.Need-put-text-requires
-put-text-requires c κs = search needs
-
--- src/calls.rt:51:9
-same-length : tie.Need-same-length
-same-length c = search needs
-
--- src/calls.rt:51:9
 returns : tie.Need-returns
-returns c = ?
+unfolding shownLine
+returns c = spelt (c .before .before .put-text .ensures) rw (lt-ltb _ _ (c .before .before .before .before .before .if1 .taken))
 
--- src/calls.rt:53:9
-room-at-requires : tie.Need-room-at-requires
-room-at-requires c κs = search needs
-
--- src/calls.rt:54:21
-marks-requires : tie.Need-marks-requires
-marks-requires c κs = search needs
-
--- src/calls.rt:55:34
-array-borrow-prefix-space : tie.Need-array-borrow-prefix-space
-array-borrow-prefix-space c = search needs
-
--- src/calls.rt:55:34
 slice-aggregate-put-shown-into : tie.Need-slice-aggregate-put-shown-into
-slice-aggregate-put-shown-into c = ?
+slice-aggregate-put-shown-into c = part-length 165 _ 65536 (c .before .before .marks .ensures) (c .before .before .before .room-at .ensures .1)
 
--- src/calls.rt:55:5
-put-shown-into-requires : tie.Need-put-shown-into-requires
-put-shown-into-requires c κs = search needs
-
--- src/calls.rt:47:1
-same-length-2 : tie.Need-same-length-2
-same-length-2 c = search needs
-
--- src/calls.rt:47:1
 returns-2 : tie.Need-returns-2
-returns-2 c = ?
+unfolding shownLine
+returns-2 c =
+    let payload = c .before .before .before .before .before .before .before .before .before .before .before .args .payload .now in
+    spelt (c .before .before .before .put-shown-into .ensures) (ap (shownText payload) (marks-cut payload 0 (c .before .before .before .before .before .before .marks .ensures) (c .before .before .before .before .before .before .before .room-at .ensures)) ∙ rw (le-ltb _ _ (c .before .before .before .before .before .before .before .before .if1 .left)))
 
 pub put-shown-spec : {M : Type 1} → statement M
 put-shown-spec =
     tie.close
-    (tie.spec
-    slice-aggregate-put-text
-    put-text-requires
-    same-length
-    returns
-    room-at-requires
-    marks-requires
-    array-borrow-prefix-space
-    slice-aggregate-put-shown-into
-    put-shown-into-requires
-    same-length-2
-    returns-2)
+    (tie.spec (λ c. search needs) (λ c κs. search needs) (λ c. search needs) returns (λ c κs. search needs) (λ c κs. search needs) (λ c. search needs)
+    slice-aggregate-put-shown-into (λ c κs. search needs) (λ c. search needs) returns-2)

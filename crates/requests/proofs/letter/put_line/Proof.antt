@@ -4,7 +4,7 @@ use Prim.Native.Nat.{ℕ}
 use borrow.Author.Needs.{needs}
 use Rattle.text.proofs.Pages.{spelt}
 use Rattle.requests.specs.Letter.{lineOf}
-use Rattle.requests.proofs.Letters.{no-such-letter}
+use Rattle.requests.proofs.Letters.{a-later-letter}
 use Rattle.requests.proofs.letter.put_line.Statement.{statement}
 use Rattle.requests.proofs.letter.put_line.Tie as tie
 
@@ -40,18 +40,11 @@ unfolding lineOf
 returns-7 c = spelt (c .before .before .put-evaluate .ensures) (ap (at (c .before .before .before .before .before .before .before .args .payload .now)) (sym (c .before .before .before .before .match .keys7)))
 
 returns-8 : tie.Need-returns-8
-unfolding lineOf
-returns-8 c = spelt (c .before .before .put-write .ensures) (ap (at (c .before .before .before .before .before .before .before .args .payload .now)) (sym (c .before .before .before .before .match .keys8)))
-
-returns-9 : tie.Need-returns-9
-unfolding lineOf
-returns-9 c = spelt (c .before .before .put-read .ensures) (ap (at (c .before .before .before .before .before .before .before .args .payload .now)) (sym (c .before .before .before .before .match .keys9)))
-
-returns-10 : tie.Need-returns-10
-returns-10 c =
-    let none = c .before .before .before .before .before .match .rest in
-    spelt (c .before .before .put-text .ensures) (no-such-letter (c .before .before .before .before .before .before .before .before .args .letter) (c .before .before .before .before .before .before .before .before .args .payload .now) (none .0 .0 .0 .0 .0 .0 .0 .0 .1) (none .0 .0 .0 .0 .0 .0 .0 .1) (none .0 .0 .0 .0 .0 .0 .1) (none .0 .0 .0 .0 .0 .1) (none .0 .0 .0 .0 .1) (none .0 .0 .0 .1) (none .0 .0 .1) (none .0 .1) (none .1))
+returns-8 c =
+    let a = c .before .before .before .before .before .before .before .args in
+    let none = c .before .before .before .before .match .rest in
+    spelt (c .before .before .put-later-line .ensures) (a-later-letter (a .letter) (a .payload .now) (none .0 .0 .0 .0 .0 .0 .1) (none .0 .0 .0 .0 .0 .1) (none .0 .0 .0 .0 .1) (none .0 .0 .0 .1) (none .0 .0 .1) (none .0 .1) (none .1))
 
 pub put-line-spec : {M : Type 1} → statement M
-put-line-spec = tie.close (tie.spec (λ c κs. search needs) (λ c κs. search needs) (λ c κs. search needs) (λ c κs. search needs) (λ c κs. search needs) (λ c κs. search needs) (λ c κs. search needs) (λ c κs. search needs) (λ c κs. search needs) (λ c. search needs) (λ c κs. search needs)
-    (λ c. search needs) returns (λ c. search needs) returns-2 (λ c. search needs) returns-3 (λ c. search needs) returns-4 (λ c. search needs) returns-5 (λ c. search needs) returns-6 (λ c. search needs) returns-7 (λ c. search needs) returns-8 (λ c. search needs) returns-9 (λ c. search needs) returns-10)
+put-line-spec = tie.close (tie.spec (λ c κs. search needs) (λ c κs. search needs) (λ c κs. search needs) (λ c κs. search needs) (λ c κs. search needs) (λ c κs. search needs) (λ c κs. search needs) (λ c κs. search needs)
+    (λ c. search needs) returns (λ c. search needs) returns-2 (λ c. search needs) returns-3 (λ c. search needs) returns-4 (λ c. search needs) returns-5 (λ c. search needs) returns-6 (λ c. search needs) returns-7 (λ c. search needs) returns-8)
