@@ -10,7 +10,7 @@ use lib.Seq.{getD-take, getD-drop, drop-drop, drop-nil, take-nil}
 use borrow.Author.Tests.{lt-leb}
 use Rattle.routing.proofs.Fours.{none-of}
 use Rattle.records.specs.Record.{byteAt, Bytes}
-use Rattle.due.specs.Texts.{behindText, behind, captureIn, cut, endsInside}
+use Rattle.due.specs.Texts.{behindText, behind, textDue, captureIn, cut, endsInside}
 
 -- the bytes that the first h texts take
 unfoldable pub sizes : List ℕ → ℕ → ℕ
@@ -30,13 +30,15 @@ unfolding sizes
 few-bytes zero bytes b = omega arith
 few-bytes (suc h) bytes b = omega (arith, b 0, few-bytes h (behindText bytes) (bytes-behind bytes b))
 
+byte-behind : (h : ℕ) (bytes : List ℕ) → Bytes bytes → byteAt (behind bytes h) 0 < 256
+byte-behind h bytes b = omega (arith, ap (λ (l : List ℕ). byteAt l 0) (passed-by h bytes), getD-drop (sizes bytes h) bytes 0 0, b (sizes bytes h + 0))
+
 -- all four texts are whole where there are 1,024 bytes
 module _ (bytes : List ℕ) (b : Bytes bytes) (long : 1024 ≤ length bytes) where
   whole : (h : ℕ) → h < 4 → cut bytes h ≡ false
   whole h less =
       let here : length (behind bytes h) ≡ length bytes - sizes bytes h = ap length (passed-by h bytes) ∙ length-drop (sizes bytes h) bytes in
-      let byte : byteAt (behind bytes h) 0 < 256 = omega (arith, ap (λ (l : List ℕ). byteAt l 0) (passed-by h bytes), getD-drop (sizes bytes h) bytes 0 0, b (sizes bytes h + 0)) in
-      lt-leb (length (behind bytes h)) (byteAt (behind bytes h) 0) (omega (arith, less, long, here, byte, few-bytes h bytes b))
+      lt-leb (length (behind bytes h)) (byteAt (behind bytes h) 0) (omega (arith, less, long, here, byte-behind h bytes b, few-bytes h bytes b))
 
   pub texts-whole : endsInside bytes ≡ false
   texts-whole = none-of (cut bytes) whole
@@ -71,3 +73,9 @@ bytes-start zero bytes b k = omega arith
 bytes-start (suc n) [] b k = omega arith
 bytes-start (suc n) (x ∷ bytes) b zero = b 0
 bytes-start (suc n) (x ∷ bytes) b (suc k) = bytes-start n bytes (λ j. b (suc j)) k
+
+pub short-text : (h : ℕ) (bytes : List ℕ) → Bytes bytes → length (textDue bytes h) < 256
+short-text h bytes b =
+    let rest = behind bytes h in
+    let byte : byteAt rest 0 < 256 = byte-behind h bytes b in
+    omega (arith, byte, length-take (byteAt rest 0) (drop 1 rest))

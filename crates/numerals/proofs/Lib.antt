@@ -3,3 +3,4 @@ pub mod Places
 pub mod Pieces
 pub mod Growing
 pub mod Saying
+pub mod Lengths

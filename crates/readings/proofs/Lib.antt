@@ -1,1 +1,4 @@
 pub mod Saids
+pub mod Wholes
+pub mod Fitting
+pub mod Sames

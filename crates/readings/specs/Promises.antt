@@ -32,9 +32,10 @@ pub record CameThrough (input : List ℕ) : Type 0 where
 abbrev pub FourSame : Type 0
 FourSame = (input : List ℕ) → (readBack input ≡ fourSame → CameThrough input) × (CameThrough input → readBack input ≡ fourSame)
 
--- What is printed of the first 65,536 bytes of an input and of its length is what would be printed of the whole input.
+-- Where the start of an input, up to 65,536 bytes of it, stands in a buffer, what is printed is what would be printed of the whole input.
 abbrev pub WholeReadBack : Type 0
-WholeReadBack = (whole : List ℕ) → Bytes whole → readKept (take 65536 whole) (length whole) ≡ readBack whole
+WholeReadBack =
+    (whole buffer : List ℕ) → Bytes whole → take (length whole) buffer ≡ take 65536 whole → readKept (take (length whole) buffer) (length whole) ≡ readBack whole
 
 -- What is printed fits onto the program's page of 131,072 bytes, so all of it stands there.
 abbrev pub ReadBackFits : Type 0

@@ -57,13 +57,13 @@ module _ (said other : List ℕ → List ℕ) where
   alike a b = alike-by a b (eqb (length a % 5) 0) refl
 
 -- the first bytes of a capture, at least 61,449 if it has so many, and what stands for it
-module _ (said : List ℕ → List ℕ) (start whole : List ℕ) where
-  pub kept-over : 61449 < length whole → 61449 ≤ length start → printedBy said (kept start (length whole)) ≡ printedBy said whole
+module _ (said other : List ℕ → List ℕ) (start whole : List ℕ) where
+  pub kept-over : 61449 < length whole → 61449 ≤ length start → printedBy said (kept start (length whole)) ≡ printedBy other whole
   kept-over more enough =
       let n = keptLength (length whole) in
       let is : n ≡ 61445 + length whole % 5 = sym (kept-long (length whole) more) in
       let l : length (take n start) ≡ n = length-take-le n start (omega (arith, is, enough)) in
-      alike said said (take n start) whole (omega (arith, l, is)) (omega (arith, l, is)) (omega (arith, more))
+      alike said other (take n start) whole (omega (arith, l, is)) (omega (arith, l, is)) (omega (arith, more))
 
 pub kept-all : (whole : List ℕ) → length whole ≤ 61449 → kept whole (length whole) ≡ whole
 kept-all whole few =
@@ -72,7 +72,7 @@ kept-all whole few =
 module _ (whole : List ℕ) where
   by-size : (b : Bool) → ltb 61449 (length whole) ≡ b → printed (kept (take 65536 whole) (length whole)) ≡ printed whole
   by-size true e =
-      let more : 61449 < length whole = ltb-true _ _ e in kept-over listing (take 65536 whole) whole more (omega (arith, more, length-take 65536 whole))
+      let more : 61449 < length whole = ltb-true _ _ e in kept-over listing listing (take 65536 whole) whole more (omega (arith, more, length-take 65536 whole))
   by-size false e =
       let few : length whole ≤ 61449 = ltb-false _ _ e in
       ap printed (ap (λ (l : List ℕ). kept l (length whole)) (take-all 65536 whole (omega (arith, few))) ∙ kept-all whole few)
