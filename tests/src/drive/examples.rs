@@ -17,8 +17,10 @@ pub fn read_folder(folder: &Path) -> Result<Vec<Example>, String> {
     for entry in fs::read_dir(folder).map_err(|error| told(&error))? {
         let path = entry.map_err(|error| told(&error))?.path();
         let ending = path.extension().and_then(|ending| ending.to_str());
-        if matches!(ending, Some("hex" | "listing")) {
-            names.push(path.with_extension(""));
+        let name = path.with_extension("");
+        // a second ending says that it is no capture, as in dose.readback.hex
+        if matches!(ending, Some("hex" | "listing")) && name.extension().is_none() {
+            names.push(name);
         }
     }
     names.sort();
