@@ -25,8 +25,8 @@ use Rattle.promises.proofs.Joining.{replay-is-run}
 use Rattle.comparison.specs.Both.{zeros}
 use Rattle.heads.specs.Shown.{shownAt, shownFrom, withoutZeros, headText}
 use Rattle.due.specs.Texts.{textDue, captureIn}
-use Rattle.readings.specs.Promises.{answersTo, CameThrough}
-use Rattle.readings.proofs.Sames.{four-same}
+use Rattle.meaning.specs.ReadBacks.{answersTo, CameThrough}
+use Rattle.meaning.proofs.Sames.{four-same}
 use Rattle.meaning.specs.Meaning.{showsFrom, textShown, HeadsOfRuns, Delivered, SameMeans}
 
 module _ (capture : List ℕ) where

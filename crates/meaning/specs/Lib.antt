@@ -1,1 +1,4 @@
+pub mod Texts
+pub mod Inputs
+pub mod ReadBacks
 pub mod Meaning

@@ -14,7 +14,7 @@ use Rattle.promises.specs.Answered.{replayRun}
 use Rattle.heads.specs.Shown.{withoutZeros, headText}
 use Rattle.due.specs.Texts.{textDue, captureIn, endsInside}
 use Rattle.readings.specs.ReadBack.{readBack}
-use Rattle.readings.specs.Promises.{fourSame, answersTo}
+use Rattle.meaning.specs.ReadBacks.{fourSame, answersTo}
 
 -- the bytes that head o shows in n cycles of a run, from cycle k on
 unfoldable pub showsFrom : Run → ℕ → ℕ → ℕ → List ℕ

@@ -12,8 +12,7 @@ use Rattle.text.specs.declared.difference.Difference.the-variants.{At}
 use Rattle.text.specs.Differ.{firstDifference}
 use Rattle.numerals.specs.Numeral.{numeral, runBegins, runEnds}
 use Rattle.numerals.specs.Piece.{holding, part, around}
-use Rattle.numerals.specs.Promises.{byteThere}
-use Rattle.numerals.proofs.Places.{place-found}
+use Rattle.numerals.proofs.Places.{found}
 
 module _ (text : List ℕ) (k : ℕ) where
   pub around-run : numeral (getD text k 0) ≡ true → {from to : ℕ} → from ≡ runBegins text k → to ≡ runEnds text k → part text from to ≡ around text k
@@ -46,7 +45,10 @@ module _ (station head : List ℕ) (k : ℕ) where
           let less : k < length head = ltb-true _ _ f in omega (arith, less, l)
       beyond false f past l =
           let over : length head ≤ k = ltb-false _ _ f in
-          absurd (place-found station head k .0 told .1 (ap (take 1) (drop-of-length-le station past ∙ sym (drop-of-length-le head over))))
+          let d = found 0 station head k told in
+          let a : length station ≤ d .far = omega (arith, d .there, past) in
+          let b : length head ≤ d .far = omega (arith, d .there, over) in
+          absurd (d .differ (ap (take 1) (drop-of-length-le station a ∙ sym (drop-of-length-le head b))))
 
   pub inside : firstDifference station head ≡ At k → k < length (holding station head k)
   inside = inside-by (ltb k (length station)) refl

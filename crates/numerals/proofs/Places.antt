@@ -10,8 +10,6 @@ use borrow.Author.Tests.{eq-eqb, ne-eqb, eqb-true, eqb-false}
 use Rattle.text.specs.declared.difference.Difference.{Difference}
 use Rattle.text.specs.declared.difference.Difference.the-variants.{Same, At}
 use Rattle.text.specs.Differ.{differenceFrom}
-use Rattle.text.proofs.Differences.{itself}
-use Rattle.numerals.specs.Promises.{byteThere, NothingDiffers, PlaceFound}
 
 -- a number for each answer, by which two of them are told apart
 abbrev tag : Difference → ℕ
@@ -37,13 +35,13 @@ module _ (i x y : ℕ) (xs ys : List ℕ) where
   stop e = rw (ne-eqb x y e)
 
 -- what a difference at place k says of two texts from place i on
-record Found (i : ℕ) (a b : List ℕ) (k : ℕ) : Type 0 where
-  far : ℕ
-  there : k ≡ i + far
-  agree : take far a ≡ take far b
-  differ : byteThere a far ≡ byteThere b far → ⊥
+pub record Found (i : ℕ) (a b : List ℕ) (k : ℕ) : Type 0 where
+  pub far : ℕ
+  pub there : k ≡ i + far
+  pub agree : take far a ≡ take far b
+  pub differ : take 1 (drop far a) ≡ take 1 (drop far b) → ⊥
 
-at-once : (i : ℕ) (a b : List ℕ) (k : ℕ) → At i ≡ At k → (byteThere a 0 ≡ byteThere b 0 → ⊥) → Found i a b k
+at-once : (i : ℕ) (a b : List ℕ) (k : ℕ) → At i ≡ At k → (take 1 (drop 0 a) ≡ take 1 (drop 0 b) → ⊥) → Found i a b k
 at-once i a b k e h =
     let t : suc i ≡ suc k = ap tag e in record { far = 0; there = omega (arith, t); agree = refl; differ = h }
 
@@ -57,7 +55,7 @@ module _ (i x y : ℕ) (xs ys : List ℕ) (k : ℕ) (told : differenceFrom i (x 
       let not-same : x ≡ y → ⊥ = eqb-false x y e in
       at-once i (x ∷ xs) (y ∷ ys) k (sym (stop i x y xs ys not-same) ∙ told) (λ h. not-same (first-of x y h))
 
-found : (i : ℕ) (a b : List ℕ) (k : ℕ) → differenceFrom i a b ≡ At k → Found i a b k
+pub found : (i : ℕ) (a b : List ℕ) (k : ℕ) → differenceFrom i a b ≡ At k → Found i a b k
 unfolding differenceFrom
 found i [] [] k e =
     let t : 0 ≡ suc k = ap tag e in absurd (omega (arith, t))
@@ -70,7 +68,7 @@ here i =
     let n : i ≡ i + 0 = omega arith in ap At n
 
 -- the only place that is such
-only : (i j : ℕ) (a b : List ℕ) → take j a ≡ take j b → (byteThere a j ≡ byteThere b j → ⊥) → differenceFrom i a b ≡ At (i + j)
+pub only : (i j : ℕ) (a b : List ℕ) → take j a ≡ take j b → (take 1 (drop j a) ≡ take 1 (drop j b) → ⊥) → differenceFrom i a b ≡ At (i + j)
 unfolding differenceFrom
 only i zero [] [] e h = absurd (h refl)
 only i zero [] (y ∷ ys) e h = here i
@@ -91,7 +89,7 @@ alike-by true i x y xs ys e next told =
 alike-by false i x y xs ys e next told =
     let t : suc i ≡ 0 = ap tag (sym (stop i x y xs ys (eqb-false x y e)) ∙ told) in absurd (omega (arith, t))
 
-alike : (i : ℕ) (a b : List ℕ) → differenceFrom i a b ≡ Same → a ≡ b
+pub alike : (i : ℕ) (a b : List ℕ) → differenceFrom i a b ≡ Same → a ≡ b
 unfolding differenceFrom
 alike i [] [] e = refl
 alike i [] (y ∷ ys) e =
@@ -99,19 +97,3 @@ alike i [] (y ∷ ys) e =
 alike i (x ∷ xs) [] e =
     let t : suc i ≡ 0 = ap tag e in absurd (omega (arith, t))
 alike i (x ∷ xs) (y ∷ ys) e = alike-by (eqb x y) i x y xs ys refl (alike (suc i) xs ys) e
-
-pub nothing-differs : NothingDiffers
-nothing-differs station head = (alike 0 station head, λ e. ap (differenceFrom 0 station) (sym e) ∙ itself station 0)
-
-pub place-found : PlaceFound
-place-found station head k = (
-  λ e.
-      let f = found 0 station head k e in
-      let far : f .far ≡ k = omega (arith, f .there) in (
-        ap (λ (n : ℕ). take n station) (sym far) ∙ f .agree ∙ ap (λ (n : ℕ). take n head) far,
-        λ h. f .differ (ap (byteThere station) far ∙ h ∙ ap (byteThere head) (sym far)),
-      ),
-  λ e h.
-      let n : 0 + k ≡ k = omega arith in
-      only 0 k station head e h ∙ ap At n,
-)

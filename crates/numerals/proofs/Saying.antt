@@ -1,57 +1,13 @@
--- What a head's line says: `same` exactly if the texts are equal. Assumes nothing.
-use mathlib.Core.Path.{_≡_, refl, sym, ap, _∙_}
-use mathlib.Core.List.{List, [], _++_, append-assoc}
-use Prim.Native.Nat.{ℕ, _+_}
-use native.Mathlib.Omega.{arith}
-use lib.ListN.{length, getD, drop}
-use lib.Seq.{getD-append-add, drop-append-seam}
+-- What is found, as text. Assumes nothing.
+use mathlib.Core.Path.{_≡_, ap, _∙_}
+use mathlib.Core.List.{List}
+use Prim.Native.Nat.{ℕ}
 use Rattle.text.specs.declared.difference.Difference.{Difference}
-use Rattle.text.specs.declared.difference.Difference.the-variants.{Same, At}
 use Rattle.text.specs.Differ.{firstDifference}
-use Rattle.text.specs.Ascii.{ascii}
-use Rattle.text.specs.Digits.{decimal, hexes}
 use Rattle.text.specs.Page.{Page, Wrote}
-use Rattle.text.proofs.Decimals.{first-digit}
 use Rattle.text.proofs.Pages.{spelt}
-use Rattle.numerals.specs.Piece.{pieceAt}
-use Rattle.numerals.specs.Line.{found, headLine, sameLine}
-use Rattle.numerals.specs.Promises.{SaysSame, NumeralsSeen}
-use Rattle.numerals.proofs.Places.{nothing-differs}
+use Rattle.numerals.specs.Line.{found}
 
 module _ (station head : List ℕ) {d : Difference} (is : d ≡ firstDifference station head) {before after : Page} where
   pub found-text : {what : List ℕ} → Wrote before what after → what ≡ found d station head → Wrote before (found (firstDifference station head) station head) after
   found-text w e = spelt w (e ∙ ap (λ (x : Difference). found x station head) is)
-
-module _ (h : ℕ) where
-  -- a line, and what stands behind it, from the head's number on
-  abbrev lineWith : List ℕ → List ℕ → List ℕ
-  lineWith said rest = decimal h ++ said ++ ascii "\n" ++ rest
-
-  from-number : (said rest : List ℕ) → lineWith said rest ≡ decimal h ++ (said ++ ascii "\n" ++ rest)
-  from-number said rest = append-assoc (decimal h ++ said) (ascii "\n") rest ∙ append-assoc (decimal h) said (ascii "\n" ++ rest) ∙ ap (λ (l : List ℕ). decimal h ++ l) (sym (append-assoc said (ascii "\n") rest))
-
-  -- the byte behind the head's number and a blank
-  abbrev tells : List ℕ → ℕ
-  tells line = getD line (length (decimal h) + 1) 0
-
-  tells-of : (said rest : List ℕ) → tells (lineWith said rest) ≡ getD (said ++ ascii "\n" ++ rest) 1 0
-  tells-of said rest = ap tells (from-number said rest) ∙ getD-append-add (decimal h) (said ++ ascii "\n" ++ rest) 1 0
-
-  module _ (station head rest other : List ℕ) where
-    by : (d : Difference) → firstDifference station head ≡ d → lineWith (found d station head) rest ≡ sameLine h ++ other → (station ≡ head) × (rest ≡ other)
-    by Same is e = (nothing-differs station head .0 is, sym (drop-append-seam (sameLine h) rest) ∙ ap (λ (l : List ℕ). drop (length (sameLine h)) l) e ∙ drop-append-seam (sameLine h) other)
-    by (At k) is e =
-        let d = first-digit k in
-        let first = ap (λ (l : List ℕ). getD (l ++ ascii " " ++ hexes (pieceAt (At k) station head) ++ ascii "\n" ++ rest) 0 0) (d .spelt) in
-        let digit : tells (lineWith (found (At k) station head) rest) ≡ d .digit = tells-of (found (At k) station head) rest ∙ first in
-        let letter : tells (sameLine h ++ other) ≡ 115 = tells-of (ascii " same") other in
-        absurd (omega (arith, sym digit ∙ ap tells e ∙ letter, d .small))
-
-pub says-same : SaysSame
-unfolding headLine
-says-same h station head rest other = (by h station head rest other (firstDifference station head) refl, λ e. ap (λ (d : Difference). decimal h ++ found d station head ++ ascii "\n") (nothing-differs station head .1 e))
-
-pub numerals-seen : NumeralsSeen
-numerals-seen h station head k is not e =
-    let same : station ≡ head = says-same h station head [] [] .0 (ap (λ (l : List ℕ). l ++ []) e) .0 in
-    not (ap (λ (l : List ℕ). getD l k 0) same)

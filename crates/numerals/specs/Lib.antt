@@ -1,4 +1,3 @@
 pub mod Numeral
 pub mod Piece
 pub mod Line
-pub mod Promises

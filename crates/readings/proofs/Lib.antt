@@ -1,4 +1,1 @@
 pub mod Saids
-pub mod Wholes
-pub mod Fitting
-pub mod Sames

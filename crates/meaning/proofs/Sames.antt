@@ -14,13 +14,13 @@ use Rattle.listing.specs.Refusal.{refusalLine}
 use Rattle.verdict.specs.Printed.{printedBy}
 use Rattle.verdict.proofs.Verdicts.{done-text, refused-text}
 use Rattle.numerals.specs.Line.{headLine, sameLine}
-use Rattle.numerals.proofs.Saying.{says-same}
+use Rattle.meaning.proofs.Telling.{says-same}
 use Rattle.heads.specs.Shown.{headText}
 use Rattle.due.specs.Texts.{textDue, captureIn, endsInside}
 use Rattle.readings.specs.Lines.{lineOf, fourLines}
 use Rattle.readings.specs.ReadBack.{readBack}
-use Rattle.readings.specs.Promises.{fourSame, answersTo, CameThrough, FourSame}
+use Rattle.meaning.specs.ReadBacks.{fourSame, answersTo, CameThrough, FourSame}
 use Rattle.readings.proofs.Saids.{cut-short, not-cut-short}
 
 -- a refusal line is none of the lines that a read-back begins with
 no-refusal : (number index : ℕ) → refusalLine number index ≡ fourSame → ⊥

@@ -12,8 +12,8 @@ use borrow.Author.Tests.{leb-false, lt-leb}
 use Rattle.routing.specs.Four.{four}
 use Rattle.routing.proofs.Fours.{no-at, none-of}
 use Rattle.records.specs.Record.{byteAt}
 use Rattle.due.specs.Texts.{firstText, behindText, behind, textDue, captureIn, cut, endsInside}
-use Rattle.due.specs.Promises.{inputOf, TextsFound, NothingElse}
+use Rattle.meaning.specs.Inputs.{inputOf, TextsFound, NothingElse}
 
 -- a text, its length before it, and what stands behind it
 abbrev before : List ℕ → List ℕ → List ℕ

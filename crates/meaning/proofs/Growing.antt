@@ -9,10 +9,10 @@ use lib.ListN.{length, getD, take, drop, length-drop}
 use lib.Seq.{getD-drop, drop-cons}
 use borrow.Author.Tests.{ltb-true, ltb-false}
 use Rattle.text.specs.declared.difference.Difference.{Difference}
 use Rattle.numerals.specs.Numeral.{numeral, runBegins, leading, runEnds}
 use Rattle.numerals.specs.Piece.{holding, begins, ends, around, pieceAt}
-use Rattle.numerals.specs.Promises.{PieceHolds, OnlyNumerals, CannotGrow, ByteAlone}
+use Rattle.meaning.specs.Texts.{PieceHolds, OnlyNumerals, CannotGrow, ByteAlone}
 use Rattle.numerals.proofs.Pieces.{inside}
 
 abbrev Numeral : List ℕ → ℕ → Type 0
 Numeral text j = numeral (getD text j 0) ≡ true

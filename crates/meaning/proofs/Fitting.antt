@@ -12,15 +12,15 @@ use Rattle.capture.specs.Refusal.{limit}
 use Rattle.records.specs.Record.{Bytes}
 use Rattle.verdict.specs.Printed.{printedBy}
 use Rattle.verdict.proofs.Fits.{fits}
-use Rattle.numerals.proofs.Lengths.{line-length}
+use Rattle.meaning.proofs.Lengths.{line-length}
 use Rattle.heads.specs.Shown.{headText}
 use Rattle.heads.proofs.Shows.{at-most}
 use Rattle.due.specs.Texts.{textDue, endsInside}
-use Rattle.due.proofs.Sizes.{short-text}
+use Rattle.meaning.proofs.Sizes.{short-text}
 use Rattle.readings.specs.Lines.{lineOf, fourLines}
 use Rattle.readings.specs.ReadBack.{readWith}
-use Rattle.readings.specs.Promises.{ReadBackFits, AllReadBack}
+use Rattle.meaning.specs.ReadBacks.{ReadBackFits, AllReadBack}
 use Rattle.readings.proofs.Saids.{cut-short, not-cut-short}
 
 module _ (input : List ℕ) (b : Bytes input) where
   module _ (answers : List ℕ) (few : records answers ≤ limit) where

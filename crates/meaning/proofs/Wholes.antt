@@ -14,11 +14,11 @@ use Rattle.comparison.specs.Both.{kept}
 use Rattle.verdict.specs.Printed.{printedBy}
 use Rattle.verdict.proofs.Whole.{kept-over, kept-all}
 use Rattle.due.specs.Texts.{captureIn, endsInside}
-use Rattle.due.proofs.Sizes.{sizes, few-bytes, texts-whole, capture-length, same-sizes, bytes-start}
+use Rattle.meaning.proofs.Sizes.{sizes, few-bytes, texts-whole, capture-length, same-sizes, bytes-start}
 use Rattle.readings.specs.Lines.{fourLines}
 use Rattle.readings.specs.ReadBack.{readWith, readBack, textsSize, readKept}
-use Rattle.readings.specs.Promises.{WholeReadBack}
+use Rattle.meaning.specs.ReadBacks.{WholeReadBack}
 use Rattle.readings.proofs.Saids.{not-cut-short}
 
 -- captures of which the same is printed are the same to the read-back
 with-same : (input a b : List ℕ) → printedBy (fourLines input) a ≡ printedBy (fourLines input) b → readWith input a ≡ readWith input b
