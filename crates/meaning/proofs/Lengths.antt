@@ -1,11 +1,11 @@
 -- How long a head's line can be. Assumes nothing.
 use mathlib.Core.Bool.{Bool, true, false}
-use mathlib.Core.Path.{_≡_, refl, ap, _∙_}
+use mathlib.Core.Path.{_≡_, refl, ap}
 use mathlib.Core.List.{List, [], _∷_, _++_}
 use Prim.Native.Nat.{ℕ, _+_, _-_, _*_, _<_, _≤_}
 use native.Mathlib.Omega.{arith}
 use lib.Dec.{ltb}
-use lib.ListN.{length, take, drop, length-take, length-drop, length-append}
+use lib.ListN.{length, drop, length-take, length-drop, length-append}
 use borrow.Author.Tests.{ltb-true, ltb-false}
 use Rattle.text.specs.declared.difference.Difference.{Difference}
 use Rattle.text.specs.declared.difference.Difference.the-variants.{Same, At}

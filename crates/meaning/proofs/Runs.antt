@@ -10,12 +10,12 @@ use borrow.Author.Tests.{eqb-true, eqb-false, ltb-true, ltb-false, lt-ltb}
 use Rattle.routing.proofs.Equal.{two}
 use Rattle.states.specs.State.{resetState}
 use Rattle.fabric.specs.Run.{resetMachine}
-use Rattle.runs.specs.Run.{Run, head}
+use Rattle.runs.specs.Run.{head}
 use Rattle.records.specs.Record.{byteAt}
 use Rattle.records.specs.Answers.{answersOf}
 use Rattle.places.specs.Capture.{records, fiveAt, recordAt, inputsIn}
 use Rattle.capture.specs.declared.refusal.Judged.{Judged}
-use Rattle.capture.specs.declared.refusal.Judged.the-variants.{Refused, Done}
+use Rattle.capture.specs.declared.refusal.Judged.the-variants.{Done}
 use Rattle.capture.specs.Refusal.{earlyRefusal, firstBad, judged}
 use Rattle.capture.specs.Replay.{replayedAs, replayOf}
 use Rattle.capture.proofs.Fates.{refused-early, refused-3, done}
@@ -24,10 +24,10 @@ use Rattle.promises.proofs.Answering.{records-are-cycles}
 use Rattle.promises.proofs.Joining.{replay-is-run}
 use Rattle.comparison.specs.Both.{zeros}
 use Rattle.heads.specs.Shown.{shownAt, shownFrom, withoutZeros, headText}
-use Rattle.due.specs.Texts.{textDue, captureIn}
-use Rattle.meaning.specs.ReadBacks.{answersTo, CameThrough}
+use Rattle.due.specs.Texts.{captureIn}
+use Rattle.meaning.specs.ReadBacks.{answersTo}
 use Rattle.meaning.proofs.Sames.{four-same}
-use Rattle.meaning.specs.Meaning.{showsFrom, textShown, HeadsOfRuns, Delivered, SameMeans}
+use Rattle.meaning.specs.Meaning.{showsFrom, textShown, HeadsOfRuns, SameMeans}
 
 module _ (capture : List ℕ) where
   abbrev number : ℕ

@@ -13,7 +13,7 @@ use Rattle.capture.specs.Replay.{replayOf}
 use Rattle.listing.specs.Refusal.{refusalLine}
 use Rattle.verdict.specs.Printed.{printedBy}
 use Rattle.verdict.proofs.Verdicts.{done-text, refused-text}
-use Rattle.numerals.specs.Line.{headLine, sameLine}
+use Rattle.numerals.specs.Line.{sameLine}
 use Rattle.meaning.proofs.Telling.{says-same}
 use Rattle.heads.specs.Shown.{headText}
 use Rattle.due.specs.Texts.{textDue, captureIn, endsInside}

@@ -1,12 +1,11 @@
 -- How many bytes four texts take: at most 1,024. So they are found in the start of a long input as in all of it. Assumes nothing.
 use mathlib.Core.Bool.{false}
-use mathlib.Core.Path.{_≡_, refl, sym, ap, subst, _∙_}
+use mathlib.Core.Path.{_≡_, refl, sym, ap, _∙_}
 use mathlib.Core.List.{List, [], _∷_}
 use Prim.Native.Nat.{ℕ, zero, suc, _+_, _-_, _*_, _<_, _≤_}
-use native.Mathlib.Nat.{zero-add}
 use native.Mathlib.Omega.{arith}
 use lib.ListN.{length, take, drop, length-drop, length-take}
-use lib.Seq.{getD-take, getD-drop, drop-drop, drop-nil, take-nil}
+use lib.Seq.{getD-take, getD-drop, drop-drop, take-nil}
 use borrow.Author.Tests.{lt-leb}
 use Rattle.routing.proofs.Fours.{none-of}
 use Rattle.records.specs.Record.{byteAt, Bytes}

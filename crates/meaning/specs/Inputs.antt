@@ -1,5 +1,5 @@
 -- The texts and the capture of an input, and that one which does not end inside its texts has nothing else.
-use mathlib.Core.Bool.{Bool, false}
+use mathlib.Core.Bool.{false}
 use mathlib.Core.Path.{_≡_}
 use mathlib.Core.List.{List, [], _∷_, _++_}
 use Prim.Native.Nat.{ℕ}

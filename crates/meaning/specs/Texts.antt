@@ -51,7 +51,7 @@ SaysSame =
     (h : ℕ) (station head rest other : List ℕ)
     → (headLine h station head ++ rest ≡ sameLine h ++ other → (station ≡ head) × (rest ≡ other)) × (station ≡ head → headLine h station head ≡ sameLine h)
 
--- If a numeral byte of one text differs from what the other has at its place, or has none, the head's line does not say `same`.
+-- If a numeral byte of one text differs from the byte that the other has at its place, or the other has none there, the head's line does not say `same`.
 abbrev pub NumeralsSeen : Type 0
 NumeralsSeen =
     (h : ℕ) (station head : List ℕ) (k : ℕ) → numeral (getD station k 0) || numeral (getD head k 0) ≡ true → (getD station k 0 ≡ getD head k 0 → ⊥)

@@ -23,5 +23,8 @@ fn main() {
     let mut page = blank_page();
     let v = readings::read_back(&kept, taken.total, &mut page);
     let n = v.length;
-    output::say(v.agreed, &page[..n], b"cannot write the lines\n");
+    let stream = verdict::stream(v.agreed) as i32;
+    if !io::write_all(stream, &page[..n]) {
+        io::write_all(libc::STDERR_FILENO, b"cannot write the lines\n");
+    }
 }

@@ -1,5 +1,5 @@
 -- What is said of both engines' replays: something of the answers, or the refusal line; where the two differ, where they do.
-use mathlib.Core.Bool.{cond}
+use mathlib.Core.Bool.{Bool, cond}
 use mathlib.Core.List.{List, _++_}
 use Prim.Native.Nat.{ℕ}
 use lib.Dec.{eqb}
@@ -28,3 +28,7 @@ verdictOf said b answers = unlessDiffer (b .difference) (outcomeText said (b .nu
 -- the program replay lists the answers
 abbrev pub verdictText : Both → List ℕ → List ℕ
 verdictText = verdictOf listing
+
+-- where a program puts the text: on 1, standard output, or where the engines differ on 2, standard error, so that nothing stands on 1
+abbrev pub streamOf : Bool → ℕ
+streamOf agreed = cond agreed 1 2

@@ -6,3 +6,4 @@ mod said;
 pub use program::replay_by_both;
 pub use said::Verdict;
 pub use said::put_verdict;
+pub use said::stream;

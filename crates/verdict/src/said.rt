@@ -3,7 +3,7 @@ ghost use mathlib.Core.Path.{_≡_};
 ghost use Rattle.text.specs.Page.{page, Wrote};
 ghost use Rattle.listing.specs.Listing.{listing};
 ghost use Rattle.comparison.specs.Agreement.{isSame};
-ghost use Rattle.verdict.specs.Verdict.{outcomeText, differText, verdictText};
+ghost use Rattle.verdict.specs.Verdict.{outcomeText, differText, verdictText, streamOf};
 use comparison::Both;
 use text::Difference;
 
@@ -53,4 +53,11 @@ pub fn put_verdict(out: &mut [u8], b: Both, answers: &[u8]) -> Verdict
             }
         }
     }
+}
+
+// Where the text of a verdict goes.
+pub fn stream(agreed: bool) -> u8
+    ensures { λ r. ⌜ r ≡ streamOf agreed ⌝ }
+{
+    if agreed { 1 } else { 2 }
 }

@@ -1,6 +1,5 @@
-use mathlib.Core.Path.{refl}
 use borrow.Author.Needs.{needs}
-use Rattle.text.proofs.Pages.{spelt, _then_}
+use Rattle.text.proofs.Pages.{_then_}
 use Rattle.numerals.specs.Line.{headLine}
 use Rattle.numerals.proofs.line.put_line.Statement.{statement}
 use Rattle.numerals.proofs.line.put_line.Tie as tie

@@ -1,5 +1,4 @@
 use mathlib.Core.Path.{sym, _∙_}
-use native.Mathlib.Omega.{arith}
 use borrow.Author.Needs.{needs}
 use Rattle.numerals.proofs.Pieces.{around-run, around-byte}
 use Rattle.numerals.proofs.part.around.Statement.{statement}

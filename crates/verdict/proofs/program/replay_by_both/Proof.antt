@@ -1,5 +1,4 @@
 use native.Mathlib.Omega.{arith}
-use lib.ListN.{length}
 use borrow.Author.Needs.{needs}
 use Rattle.listing.specs.Listing.{listing}
 use Rattle.text.proofs.Lists.{part-length}
