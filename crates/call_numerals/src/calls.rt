@@ -4,13 +4,13 @@ ghost use lib.ListN.{length};
 ghost use Rattle.text.specs.Page.{page, Wrote};
 ghost use Rattle.text.specs.Differ.{firstDifference};
 ghost use Rattle.call_numerals.specs.Calls.{placeText, pieceText, pieceLine, shownText, shownLine};
+use numerals::Difference;
 use routing::Output;
-use text::Difference;
 
 fn put_place(out: &mut [u8], station: &[u8], head: &[u8]) -> usize
     ensures { λ r. ⌜ Wrote (page (now (out .entry)) 0) (placeText (firstDifference (now (station .entry)) (now (head .entry)))) (page (now (out .exit)) r) ⌝ }
 {
-    match text::first_difference(station, head) {
+    match numerals::first_difference(station, head) {
         Difference::Same => text::put_text(out, 0, b"same "),
         Difference::At(k) => parts::put_number(out, 0, k as u64),
     }

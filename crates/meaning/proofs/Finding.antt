@@ -10,6 +10,7 @@ use lib.ListN.{length, take, drop, length-append, take-append-drop}
 use lib.Seq.{take-append-seam, drop-append-seam, length-take-le}
 use borrow.Author.Tests.{leb-false, lt-leb}
 use Rattle.routing.specs.Four.{four}
+use Rattle.routing.proofs.Equal.{row-of}
 use Rattle.routing.proofs.Fours.{no-at, none-of}
 use Rattle.records.specs.Record.{byteAt}
 use Rattle.due.specs.Texts.{firstText, behindText, behind, textDue, captureIn, cut, endsInside}
@@ -51,9 +52,6 @@ module _ (capture : List ℕ) where
     whole : cut (inputOf texts capture) h ≡ false
     whole = ap cutHere here ∙ not-cut text (inputOf more capture)
 
-four-equal : {a b c d w x y z : List ℕ} → a ≡ w → b ≡ x → c ≡ y → d ≡ z → (a ∷ b ∷ c ∷ d ∷ []) ≡ (w ∷ x ∷ y ∷ z ∷ [])
-four-equal ea eb ec ed = cc
-
 module _ (t0 t1 t2 t3 capture : List ℕ) where
   abbrev texts : List (List ℕ)
   texts = t0 ∷ t1 ∷ t2 ∷ t3 ∷ []
@@ -69,7 +67,7 @@ module _ (t0 t1 t2 t3 capture : List ℕ) where
   unfolding inputOf
   all-found = (
     none-of (cut (inputOf texts capture)) none-cut,
-    four-equal
+    row-of
         (found capture texts 0 t0 (t1 ∷ t2 ∷ t3 ∷ []) (omega arith) refl)
         (found capture texts 1 t1 (t2 ∷ t3 ∷ []) (omega arith) refl)
         (found capture texts 2 t2 (t3 ∷ []) (omega arith) refl)

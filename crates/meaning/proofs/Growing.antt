@@ -1,5 +1,5 @@
 -- How far a piece reaches: it holds the place, has nothing but numeral bytes and cannot grow. Assumes nothing.
-use mathlib.Core.Bool.{Bool, true, false, cond, true≢false}
+use mathlib.Core.Bool.{Bool, true, false, cond}
 use mathlib.Core.Path.{_≡_, refl, sym, ap, _∙_}
 use mathlib.Core.List.{List, [], _∷_}
 use Prim.Native.Nat.{ℕ, zero, suc, _+_, _-_, _<_, _≤_}
@@ -9,6 +9,7 @@ use lib.ListN.{length, getD, take, drop, length-drop}
 use lib.Seq.{getD-drop, drop-cons}
 use borrow.Author.Tests.{ltb-true, ltb-false}
 use Rattle.text.specs.declared.difference.Difference.{Difference}
+use Rattle.routing.proofs.Fours.{not-both}
 use Rattle.numerals.specs.Numeral.{numeral, runBegins, leading, runEnds}
 use Rattle.numerals.specs.Piece.{holding, begins, ends, around, pieceAt}
 use Rattle.meaning.specs.Texts.{PieceHolds, OnlyNumerals, CannotGrow, ByteAlone}
@@ -19,9 +20,6 @@ Numeral text j = numeral (getD text j 0) ≡ true
 
 abbrev Other : List ℕ → ℕ → Type 0
 Other text j = numeral (getD text j 0) ≡ false
-
-clash : {b : Bool} → b ≡ true → b ≡ false → ⊥
-clash is not = true≢false (sym is ∙ not)
 
 module _ (text : List ℕ) where
   -- the run before place k: `from` is where it begins
@@ -107,7 +105,7 @@ module _ (text : List ℕ) (k : ℕ) where
   no-further from to at all h not = by (ltb at to) refl
     where
       by : (t : Bool) → ltb at to ≡ t → to ≤ at
-      by true e = absurd (clash (all at h (ltb-true _ _ e)) not)
+      by true e = absurd (not-both (all at h (ltb-true _ _ e)) not)
       by false e = ltb-false _ _ e
 
   -- numeral bytes from place `from` on cannot begin before the run does
@@ -121,7 +119,7 @@ module _ (text : List ℕ) (k : ℕ) where
       by true e =
           let less : from < runBegins text k = ltb-true _ _ e in
           let at : ℕ = runBegins text k - 1 in
-          absurd (clash (all at (omega (arith, less)) (omega (arith, i, b .low))) (b .ended at (omega (arith, less))))
+          absurd (not-both (all at (omega (arith, less)) (omega (arith, i, b .low))) (b .ended at (omega (arith, less))))
       by false e = ltb-false _ _ e
 
   module _ (is : Numeral text k) where

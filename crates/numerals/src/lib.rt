@@ -1,5 +1,5 @@
-//! The numeral read-back of two texts, the one that a station sent and the one that a head showed: where they begin to differ (`first_difference`
-//! of `text`), the numeral around that place, and the line that is said of it.
+//! The numeral read-back of two texts, the one that a station sent and the one that a head showed: where they begin to differ, the numeral around that
+//! place, and the line that is said of it. The first difference is that of `text`, handed on.
 
 mod line;
 mod numeral;
@@ -8,3 +8,5 @@ mod part;
 pub use line::put_line;
 pub use numeral::is_numeral;
 pub use part::piece;
+pub use text::Difference;
+pub use text::first_difference;
