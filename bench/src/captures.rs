@@ -2,7 +2,7 @@
 //! answers that are right for them.
 
 use outside_model::make::rng::Rng;
-use outside_model::model::cycle::Inputs;
+use outside_model::model::cycle::{Inputs, RECORD};
 use outside_model::model::state::State;
 use outside_model::model::RIGHT;
 use std::array::from_fn;
@@ -38,15 +38,21 @@ impl Capture {
             choices: 0,
             state: State::reset(),
         };
-        while capture.answers.len() < 5 * RECORDS {
+        while !capture.is_full() {
             KINDS[kind].1(&mut capture, &mut rng);
         }
-        capture.bytes.truncate(5 * RECORDS);
-        capture.answers.truncate(5 * RECORDS);
         capture
     }
 
+    fn is_full(&self) -> bool {
+        self.bytes.len() == RECORD * RECORDS
+    }
+
+    /// A frame that does not fit whole is cut where the capture is full.
     fn push(&mut self, start: bool, acks: u8, bytes: [u8; 4]) {
+        if self.is_full() {
+            return;
+        }
         let mut record = vec![u8::from(start) << 7 | acks & 15];
         record.extend(bytes);
         let cycle = RIGHT.cycle(&self.state, &Inputs::from_record(&record));
@@ -62,7 +68,7 @@ impl Capture {
     /// Whether the next cycle has a routing, which nothing that comes in then
     /// can change.
     fn routes_next(&self) -> bool {
-        let nothing = Inputs::from_record(&[0; 5]);
+        let nothing = Inputs::from_record(&[0; RECORD]);
         RIGHT.cycle(&self.state, &nothing).report.is_some()
     }
 

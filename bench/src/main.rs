@@ -25,9 +25,12 @@ struct Build {
 
 fn main() -> ExitCode {
     let arguments: Vec<String> = std::env::args().skip(1).collect();
-    let Some((room, mut builds)) = read(&arguments) else {
-        eprintln!("bench: give a folder, the words that run a program, --, and names and paths");
-        return ExitCode::from(2);
+    let (room, mut builds) = match read(&arguments) {
+        Some(read) => read,
+        None => {
+            eprintln!("bench: give a folder, what runs a program, --, names and paths");
+            return ExitCode::from(2);
+        }
     };
     println!("records per second in {TRIES} tries, the builds in turns");
     for (kind, (name, _)) in KINDS.iter().enumerate() {
