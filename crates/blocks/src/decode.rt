@@ -19,7 +19,7 @@ const DECODE: [u32; 10] = [
 ];
 
 // For each output, whether the header asks for it in the high class, and whether it asks for it.
-#[derive(Drop)]
+#[derive(Clone, Copy)]
 pub struct Requests {
     pub high: [bool; 4],
     pub asks: [bool; 4],

@@ -4,6 +4,8 @@
 //! In a table the number before a net's name is its place; the nets below the first are the block inputs. `INV` is an inverter, `AO` is kind 8:
 //! first AND second, OR third AND fourth. A name that ends in `B` is the net of that name inverted.
 
+#![tactic(auto)]
+
 mod decode;
 mod filter;
 mod line;

@@ -13,7 +13,7 @@ const PHASE: [u32; 5] = [
     0x42410002, // 10 next = OR stays, start: the next phase is waiting
 ];
 
-#[derive(Drop)]
+#[derive(Clone, Copy)]
 pub struct Timing {
     pub routing: bool,
     pub waiting: bool,

@@ -1,5 +1,7 @@
 //! The replay by either engine, saving and taking up, asked for by the bytes of a payload and answered by a line of text on a page (crate `text`).
 
+#![tactic(auto)]
+
 mod replay;
 mod state;
 

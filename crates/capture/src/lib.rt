@@ -1,5 +1,7 @@
 //! The replay of a capture over the cycle rules of `fabric`.
 
+#![tactic(auto)]
+
 mod refusal;
 mod run;
 

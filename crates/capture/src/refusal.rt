@@ -8,7 +8,7 @@ use states::State;
 
 const LIMIT: usize = 12288;
 
-#[derive(Drop)]
+#[derive(Clone, Copy)]
 pub enum Judged {
     Refused { number: u8, index: usize },
     Done,

@@ -9,7 +9,7 @@ use super::refusal::Judged;
 use states::State;
 
 // What a replay hands back: the refusal's number or 0, the index of a bad record or 0, the state and the four rows.
-#[derive(Drop)]
+#[derive(Clone, Copy)]
 pub struct Replayed {
     pub number: u8,
     pub index: usize,

@@ -8,7 +8,7 @@ use super::agreement;
 use text::Difference;
 
 // The refusal's number or 0 and its index, as the cycle rules give them, and where the gates differ.
-#[derive(Drop)]
+#[derive(Clone, Copy)]
 pub struct Both {
     pub number: u8,
     pub index: usize,

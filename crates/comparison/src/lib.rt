@@ -2,6 +2,8 @@
 //!
 //! That they agree is proved. The comparison is for what no proof covers: a fault of the compiled code or of the machine.
 
+#![tactic(auto)]
+
 mod agreement;
 mod both;
 

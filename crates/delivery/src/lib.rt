@@ -1,1 +1,3 @@
 //! What written frames do in a run: statements and proofs, no code.
+
+#![tactic(auto)]

@@ -11,7 +11,7 @@ use states::State;
 
 // What a cycle answers: the refusal's number or 0, the acknowledgements to the inputs, the shown head bytes; then the state and the four rows
 // at the start of the next cycle.
-#[derive(Drop)]
+#[derive(Clone, Copy)]
 pub struct GateCycled {
     pub number: u8,
     pub acks: [bool; 4],
@@ -40,7 +40,7 @@ fn next_state(s: State, headers: [u8; 4], start: bool) -> State
 }
 
 // What the data part makes: the acknowledgements to the inputs and the next switch bytes.
-#[derive(Drop)]
+#[derive(Clone, Copy)]
 struct Passed {
     acks: [bool; 4],
     switched: [u8; 4],

@@ -2,6 +2,8 @@
 //! shut flag, holder bit, switch bit and acknowledgement is a gate's net. The plain machine of `fabric` stands below, and the contracts here are
 //! equations with its definitions.
 
+#![tactic(auto)]
+
 mod cycle;
 mod run;
 

@@ -9,7 +9,7 @@ use routing::{Input, Output, Report};
 use states::State;
 
 // The inputs of a cycle: frame start, four bytes, four output acknowledgements.
-#[derive(Drop)]
+#[derive(Clone, Copy)]
 pub struct Inputs {
     pub frame: bool,
     pub bytes: [u8; 4],
@@ -18,7 +18,7 @@ pub struct Inputs {
 
 // What a cycle answers: the refusal's number or 0, the report, the acknowledgements to the inputs, the shown head bytes; then the
 // state and the four rows at the start of the next cycle.
-#[derive(Drop)]
+#[derive(Clone, Copy)]
 pub struct Cycled {
     pub number: u8,
     pub report: Report,

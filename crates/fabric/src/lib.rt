@@ -2,6 +2,8 @@
 //!
 //! The contracts speak of the definitions in `specs/`.
 
+#![tactic(auto)]
+
 mod cycle;
 
 pub use cycle::{Cycled, Inputs, single_cycle, step};

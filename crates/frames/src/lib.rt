@@ -2,6 +2,8 @@
 //!
 //! A cell is lent as bytes, its header first and its body behind it; no bytes are no cell.
 
+#![tactic(auto)]
+
 mod reading;
 mod writing;
 

@@ -4,7 +4,7 @@ ghost use Rattle.routing.specs.Four.{bit};
 ghost use Rattle.gates.specs.Evaluation.{nets_after, early_refusal, first_fault, refused, value_of, evaluated};
 
 // What the evaluator answers: the refusal's number or 0, the index of a bad word or 0, and the number whose bit n is net n.
-#[derive(Drop)]
+#[derive(Clone, Copy)]
 pub struct Evaluated {
     pub number: u8,
     pub index: usize,
@@ -12,7 +12,7 @@ pub struct Evaluated {
 }
 
 // What the test of the words finds: 11 or 12 with the word's index, or 0 and 0.
-#[derive(Drop)]
+#[derive(Clone, Copy)]
 pub struct Fault {
     pub number: u8,
     pub index: usize,

@@ -3,6 +3,8 @@
 //!
 //! No contract can say what is read. These say what stays within the buffer.
 
+#![tactic(auto)]
+
 mod standard;
 
 pub use standard::{Filled, Taken, fill, take_in};

@@ -2,6 +2,8 @@
 //!
 //! Every call puts its text onto a page, a lent buffer and a place in it, and hands back the next place (crate `text`).
 
+#![tactic(auto)]
+
 mod lines;
 mod refusal;
 

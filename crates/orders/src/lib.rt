@@ -1,5 +1,7 @@
 //! Orders for frames, as the program `write_frame` reads them, and what is said to them.
 
+#![tactic(auto)]
+
 mod order;
 mod words;
 

@@ -7,7 +7,7 @@ ghost use Rattle.orders.specs.Answer.{at_frame, line_about, refused_text, answer
 use super::order;
 
 // How many bytes there are, and whether they are the records of a frame; where they are not, no more orders are answered.
-#[derive(Drop)]
+#[derive(Clone, Copy)]
 pub struct Said {
     pub length: usize,
     pub written: bool,

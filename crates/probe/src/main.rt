@@ -1,4 +1,6 @@
 // Answers the requests on standard input, a line for each, until the input ends.
+#![tactic(auto)]
+
 ghost use Rattle.std.specs.Prelude.{◌≡◌, length};
 
 // Room for the longest line: 65,536 bytes in hex, and what stands before them.

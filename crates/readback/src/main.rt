@@ -1,5 +1,7 @@
 // Reads the texts due at the four heads and the capture behind them from standard input, and prints a line for each head, or the one line that refuses
 // the input; where the engines differ, nothing but where they do, on standard error.
+#![tactic(auto)]
+
 ghost use Rattle.std.specs.Prelude.{◌≡◌, length};
 
 // Room for the longest lines: four pieces of 12,288 bytes in hex, and what stands around them.

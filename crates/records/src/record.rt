@@ -34,7 +34,7 @@ pub fn record_of(i: Inputs) -> [u8; 5]
 }
 
 // A cycle's answer: the acknowledgements to the inputs and the shown head bytes.
-#[derive(Drop)]
+#[derive(Clone, Copy)]
 pub struct Answer {
     pub acks: [bool; 4],
     pub heads: [u8; 4],

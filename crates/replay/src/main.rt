@@ -1,5 +1,7 @@
 // Replays standard input from reset by both engines and prints the listing or the refusal line; where the engines differ, nothing but where they
 // do, on standard error.
+#![tactic(auto)]
+
 ghost use Rattle.std.specs.Prelude.{◌≡◌, length};
 
 // Room for the longest listing.

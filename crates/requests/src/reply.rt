@@ -6,7 +6,7 @@ ghost use Rattle.requests.specs.Reply.{payload_length, reply_of};
 use super::letter;
 
 // How many bytes of text there are, and whether it is the last reply.
-#[derive(Drop)]
+#[derive(Clone, Copy)]
 pub struct Reply {
     pub length: usize,
     pub last: bool,

@@ -2,6 +2,8 @@
 //!
 //! The contracts speak of the definitions in `specs/`.
 
+#![tactic(auto)]
+
 mod bits;
 mod header;
 mod port;

@@ -7,13 +7,13 @@ ghost use Rattle.routing.specs.Route.{asked, remains, winner, routes, decided, o
 use super::port::{Input, Output};
 use super::{header, turn};
 
-#[derive(Drop)]
+#[derive(Clone, Copy)]
 pub enum Outcome {
     Quiet,
     Won { winner: Input, turned_away: u8 },
 }
 
-#[derive(Drop)]
+#[derive(Clone, Copy)]
 pub struct Outcomes {
     pub output0: Outcome,
     pub output1: Outcome,
@@ -21,7 +21,7 @@ pub struct Outcomes {
     pub output3: Outcome,
 }
 
-#[derive(Drop)]
+#[derive(Clone, Copy)]
 pub enum Report {
     NoRouting,
     Routing(Outcomes),

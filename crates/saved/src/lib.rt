@@ -1,5 +1,7 @@
 //! The saved state, 18 bytes: saving, and taking up.
 
+#![tactic(auto)]
+
 mod saving;
 mod taking_up;
 

@@ -7,7 +7,7 @@ use routing::Input;
 use states::State;
 
 // What taking up answers: the refusal's number or 0, the state and the four rows.
-#[derive(Drop)]
+#[derive(Clone, Copy)]
 pub struct TakenUp {
     pub number: u8,
     pub state: State,

@@ -2,6 +2,8 @@
 //!
 //! The contracts speak of the definitions in `specs/`.
 
+#![tactic(auto)]
+
 mod ahead;
 
 pub use ahead::on_its_way;

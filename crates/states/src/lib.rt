@@ -2,6 +2,8 @@
 //!
 //! The contracts speak of the definitions in `specs/`.
 
+#![tactic(auto)]
+
 mod state;
 
 pub use state::{State, refusal, reset_rows, reset_state, rows_of};

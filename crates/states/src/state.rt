@@ -4,7 +4,7 @@ ghost use Rattle.states.specs.State.{reset_state, reset_rows, holder_above, open
 
 use routing::Input;
 
-#[derive(Drop)]
+#[derive(Clone, Copy)]
 pub struct State {
     pub waiting: bool,
     pub shut: [bool; 4],

@@ -2,7 +2,7 @@
 ghost use Rattle.std.specs.Prelude.{◌≡◌, min};
 ghost use Rattle.text.specs.Differ.{first_difference};
 
-#[derive(Drop)]
+#[derive(Clone, Copy)]
 pub enum Difference {
     Same,
     At(usize),

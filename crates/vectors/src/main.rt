@@ -1,4 +1,6 @@
 // Tries what document 01 gives as an example or an edge, and prints a line for each try: what was tried, and what a proved call answered.
+#![tactic(auto)]
+
 mod differences;
 mod evaluations;
 mod handed_in;

@@ -21,7 +21,7 @@ pub(crate) fn say(title: &[u8], how: &[u8], page: &[u8], n: usize)
     }
 }
 
-#[derive(Drop)]
+#[derive(Clone, Copy)]
 enum Call {
     Cycle,
     GateCycle,

@@ -1,5 +1,7 @@
 //! What is printed of one capture through both engines: the listing or the refusal line where the two agree, otherwise where they differ.
 
+#![tactic(auto)]
+
 mod program;
 mod said;
 

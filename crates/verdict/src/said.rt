@@ -9,7 +9,7 @@ use comparison::Both;
 use text::Difference;
 
 // Whether the two agree, and how many bytes of text there are.
-#[derive(Drop)]
+#[derive(Clone, Copy)]
 pub struct Verdict {
     pub agreed: bool,
     pub length: usize,

@@ -35,7 +35,7 @@ const TURN: [u32; 25] = [
 ];
 
 // The two bits of a holder's number.
-#[derive(Drop)]
+#[derive(Clone, Copy)]
 pub struct Holder {
     pub low: bool,
     pub high: bool,

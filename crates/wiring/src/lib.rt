@@ -1,5 +1,7 @@
 //! The wiring of the fabric by gates: what feeds each block of `blocks`, in the order in which the blocks are evaluated.
 
+#![tactic(auto)]
+
 mod wires;
 
 pub use wires::{

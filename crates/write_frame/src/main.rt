@@ -1,5 +1,7 @@
 // Writes the frames that standard input orders as a capture to standard output. An order that is refused or cut short ends it with a line on
 // standard error, and nothing of its frame is written.
+#![tactic(auto)]
+
 ghost use Rattle.std.specs.Prelude.{◌≡◌, ◌+◌, ◌≤◌, length};
 
 use input::Filled;

@@ -10,9 +10,7 @@ use Rattle.routing.specs.Turn.{in_turn}
 use Rattle.routing.specs.Port.{input}
 use Rattle.routing.proofs.Tests.{upto, everywhere}
 use Rattle.routing.proofs.Turns.{turn_mod}
-use borrow.Author.Rules.{rules}
-use Rattle.routing.proofs.turn.in_turn.Statement.{statement}
-use Rattle.routing.proofs.turn.in_turn.Tie as tie
+use Rattle.routing.proofs.turn.in_turn.Goals as goal
 
 -- where the turn comes to from place n on, by trailing zeros
 abbrev reached : ℕ → ℕ → ℕ
@@ -31,11 +29,7 @@ from_next m h n t r below-16 below-5 turned passed next =
     ap (λ (k : ℕ). (n + k) % 4) (passed ∙ ap (λ (u : ℕ). count_trailing_zeros 32 (u % 8 + 8)) turned) ∙ reached_turn m n below-16 below-5
     ∙ sym (turn_mod (λ i. bit_at i m) (n + 3)) ∙ ap (in_turn (λ i. bit_at i m)) next ∙ turn_mod (λ i. bit_at i m) h
 
-returns : tie.Need-returns
+pub returns : goal.returns
 returns c =
-    let a = c.before.before.before.args in
-    ap input (from_next a.mask a.holder.0 _ _ _ c.before.before.before.requires (omega arith) c.before.turned-mask.ensures c.passed.ensures.0 (omega arith))
-
-pub in-turn-spec : {M : Type 1} → statement M
-in-turn-spec = tie.close
-    (tie.spec (λ c. search rules) (λ c. search rules) (λ c κs. search rules) (λ c κs. search rules) (λ c. search rules) (λ c. search rules) returns)
+    let a = c.args in
+    ap input (from_next a.mask a.holder.0 _ _ _ c.requires (omega arith) c.turned_mask.ensures c.passed.ensures.0 (omega arith))

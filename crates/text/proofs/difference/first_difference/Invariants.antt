@@ -1,0 +1,13 @@
+use mathlib.Core.Path.{◌≡◌, refl, sym, ◌∙◌}
+use Prim.Native.Nat.{◌-◌, ◌≤◌, min}
+use native.Mathlib.Omega.{arith}
+use lib.ListN.{length}
+use Rattle.text.specs.Differ.{first_difference}
+use Rattle.text.proofs.Differences.{from_here, same_here, differ_here, both_end, one_ends}
+use Rattle.text.proofs.difference.first_difference.Given as goal
+
+abbrev pub invariant-loop-i : goal.invariant-loop-i
+invariant-loop-i l = (first_difference l.a l.b ≡ from_here l.a l.b l.i) × (l.both ≡ min (length l.a) (length l.b)) × (l.i ≤ l.both)
+
+abbrev pub decreases-loop-i : goal.decreases-loop-i
+decreases-loop-i l = l.both - l.i
