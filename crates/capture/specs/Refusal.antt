@@ -1,7 +1,7 @@
 -- What becomes of a replay: refusals 14, 7, 8, 1, 4, 2, 3 in this order, or done.
 use Rattle.std.specs.Prelude.{Bool, cond, not, List, ℕ, zero, suc, ◌%◌, eqb, ltb, length}
 use Rattle.states.specs.declared.state.State.{State}
-use Rattle.states.specs.State.{◌when◌otherwise◌, ◌orElse◌, state_refusal}
+use Rattle.states.specs.State.{◌when◌otherwise◌, ◌or_else◌, state_refusal}
 use Rattle.records.specs.Record.{byte_at, spare_set}
 use Rattle.capture.specs.declared.refusal.Judged.{Judged}
 use Rattle.capture.specs.declared.refusal.Judged.TheVariants.{Refused, Done}

@@ -4,7 +4,7 @@ use Rattle.states.specs.declared.state.State.{State}
 use Rattle.saved.specs.declared.taking_up.TakenUp.{TakenUp}
 use Rattle.routing.specs.Four.{four, bit, bit_at}
 use Rattle.routing.specs.Port.{input}
-use Rattle.states.specs.State.{shut_at, holder_at, first_row, second_row, switch_row, head_row, reset_state, zero_row, ◌when◌otherwise◌, ◌orElse◌, state_refusal}
+use Rattle.states.specs.State.{shut_at, holder_at, first_row, second_row, switch_row, head_row, reset_state, zero_row, ◌when◌otherwise◌, ◌or_else◌, state_refusal}
 use Rattle.fabric.specs.Cycle.{Machine}
 use Rattle.records.specs.Record.{byte_at}
 

@@ -5,7 +5,7 @@ use Prim.Native.Nat.{ℕ}
 use native.Mathlib.Omega.{arith}
 use lib.Dec.{eqb}
 use borrow.Author.Tests.{eq-eqb, ne_eqb, eqb-true}
-use Rattle.states.specs.State.{◌when◌otherwise◌, ◌orElse◌}
+use Rattle.states.specs.State.{◌when◌otherwise◌, ◌or_else◌}
 
 module _ {A : Type 0} {number n : ℕ} (is : n ≡ number) (x : A) where
   pub answered : (y : A) → n ≡ 0 → x ≡ cond (eqb number 0) x y

@@ -50,8 +50,8 @@ infixr 5 ◌when◌otherwise◌
 abbrev pub ◌when◌otherwise◌ : ℕ → Bool → ℕ → ℕ
 n when b otherwise m = cond b n m
 
-infixr 5 ◌orElse◌
-abbrev pub ◌orElse◌ : ℕ → ℕ → ℕ
+infixr 5 ◌or_else◌
+abbrev pub ◌or_else◌ : ℕ → ℕ → ℕ
 n or_else m = n when not (eqb n 0) otherwise m
 
 -- 14: a holder above 3
