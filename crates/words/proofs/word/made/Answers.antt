@@ -31,6 +31,6 @@ returns-in-8 c = made_known _ _ _ _ _ _ 8 (lit< tt) c.requires c.in-8.is
 
 pub returns-in_default : goal.returns-in_default
 returns-in_default c =
-    let r = c.in_default.rest in
+    let r = c.in_default.in_default-own.rest in
     made_unknown _ _
     (past_eight (past_four r.0.0.0.0.0.0.0.0.1 r.0.0.0.0.0.0.0.1 r.0.0.0.0.0.0.1 r.0.0.0.0.0.1 r.0.0.0.0.1) r.0.0.0.1 r.0.0.1 r.0.1 r.1)

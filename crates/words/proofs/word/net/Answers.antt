@@ -1,4 +1,5 @@
 use Rattle.words.proofs.Bits.{no_bit_64}
+use borrow.Author.Rules.{rules}
 use Rattle.words.proofs.word.net.Goals as goal
 
 pub returns-else-n-lt64 : goal.returns-else-n-lt64

@@ -1,0 +1,17 @@
+use mathlib.Core.Path.{◌≡◌, ap, ◌∙◌}
+use mathlib.Core.List.{List, [], ◌∷◌}
+use Prim.Native.Nat.{ℕ, ◌-◌}
+use native.Mathlib.Omega.{arith}
+use Rattle.fabric.specs.declared.cycle.Cycled.{Cycled}
+use Rattle.fabric.specs.Cycle.{machine, rows_after, step_of}
+use Rattle.records.specs.Record.{inputs_from}
+use Rattle.places.specs.Capture.{inputs_in, with_answer}
+use Rattle.capture.specs.Replay.{handed_back}
+use Rattle.capture.proofs.Loops.{After, start, turn, finished}
+use Rattle.capture.proofs.run.run.Given as goal
+
+abbrev pub invariant-loop-k : goal.invariant-loop-k
+invariant-loop-k l = After (machine l.initial.state l.initial.r) l.capture l.initial.buffer l.buffer l.state l.r l.k
+
+abbrev pub decreases-loop-k : goal.decreases-loop-k
+decreases-loop-k l = l.n - l.k
