@@ -1,0 +1,22 @@
+use mathlib.Core.Path.{◌≡◌}
+use Prim.Native.Nat.{◌+◌, ◌-◌, ◌^◌, ◌≤◌, ◌<◌}
+use native.Mathlib.Nat.{add-zero, add_assoc}
+use lib.ListN.{length, drop}
+use Rattle.gates.specs.Evaluation.{nets_after}
+use Rattle.gates.proofs.Loops.{nets_start, nets_again, nets_end}
+use borrow.Author.Rules.{rules}
+use Rattle.gates.proofs.evaluator.run.Goals as goal
+
+pub loop-i-init : goal.loop-i-init
+loop-i-init c = (search rules, rw add-zero c.requires.1, nets_start _ _ _)
+
+pub loop-i-preserved : goal.loop-i-preserved
+loop-i-preserved c =
+    let l = c.loop-i in (
+      search rules,
+      rw (← add_assoc) c.with_net-v.ensures.1,
+      nets_again _ _ _ l.i l.v l.invariant.2 c.loop-i-test.true c.gate.ensures c.with_net-v.ensures.0,
+    )
+
+pub returns : goal.returns
+returns c = nets_end _ _ _ c.loop-i.i _ c.loop-i.invariant.2 c.loop-i-test.false
