@@ -1,0 +1,30 @@
+use mathlib.Core.Path.{sym, ap, ◌∙◌}
+use Prim.Native.Nat.{ℕ, ◌%◌}
+use native.Mathlib.Omega.{arith}
+use Rattle.frames.proofs.Searches.{no_cell_here, Trimmed, begin, shorter, ended}
+use Rattle.frames.proofs.reading.cell_end.Goals as goal
+
+pub returns-then-sent_at-ne1 : goal.returns-then-sent_at-ne1
+returns-then-sent_at-ne1 c =
+    let a = c.args in
+    (omega arith, no_cell_here a.frame.now a.input a.at (λ on. c.if-sent_at-ne1.true (ap (λ (x : ℕ). x % 2) c.sent_at.ensures ∙ on)))
+
+pub loop-end-init : goal.loop-end-init
+loop-end-init c =
+    let a = c.args in begin a.frame.now a.input a.at (sym (ap (λ (x : ℕ). x % 2) c.sent_at.ensures) ∙ c.if-sent_at-ne1.false)
+
+pub returns-then-sent_at-ne0 : goal.returns-then-sent_at-ne0
+returns-then-sent_at-ne0 c =
+    let a = c.args in
+    let t = c.loop-end.invariant in
+    (omega (arith, t.more), ended a.frame.now a.input a.at t (λ z. c.if-sent_at-ne0.true (c.sent_at-in-loop-end.ensures ∙ z)))
+
+pub loop-end-preserved : goal.loop-end-preserved
+loop-end-preserved c =
+    let a = c.args in
+    let h = c in
+    let on = sym (ap (λ (x : ℕ). x % 2) h.sent_at.ensures) ∙ c.if-sent_at-ne1.false in
+    shorter a.frame.now a.input a.at on c.loop-end.invariant (sym c.sent_at-in-loop-end.ensures ∙ c.if-sent_at-ne0.false)
+
+pub returns : goal.returns
+returns c = absurd (omega (arith, c.loop-end.invariant.more, c.loop-end-test.false))

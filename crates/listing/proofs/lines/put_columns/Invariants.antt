@@ -1,0 +1,15 @@
+use mathlib.Core.Path.{◌≡◌, refl, ◌∙◌}
+use Prim.Native.Nat.{◌-◌}
+use native.Mathlib.Omega.{arith}
+use lib.ListN.{length, drop}
+use Rattle.text.specs.Page.{page}
+use Rattle.text.proofs.Pages.{◌then◌, Ahead, begun, went_on, ended}
+use Rattle.listing.specs.Listing.{columns}
+use Rattle.listing.proofs.Turns.{next_column, no_column}
+use Rattle.listing.proofs.lines.put_columns.Given as goal
+
+abbrev pub invariant-loop-i : goal.invariant-loop-i
+invariant-loop-i l = Ahead (page l.initial.out l.place) (columns l.bytes) (page l.out l.next) (columns (drop l.i l.bytes)) × (length l.out ≡ length l.initial.out)
+
+abbrev pub decreases-loop-i : goal.decreases-loop-i
+decreases-loop-i l = length l.bytes - l.i

@@ -1,0 +1,5 @@
+use Rattle.text.proofs.Pages.{◌then◌}
+use Rattle.listing.proofs.lines.put_line.Goals as goal
+
+pub returns : goal.returns
+returns c = c.put_decimal-next.ensures then c.put_columns-last.ensures then c.put_byte.ensures

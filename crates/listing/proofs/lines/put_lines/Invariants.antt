@@ -1,0 +1,15 @@
+use mathlib.Core.Path.{◌≡◌, refl, ap, ◌∙◌}
+use Prim.Native.Nat.{◌-◌}
+use native.Mathlib.Omega.{arith}
+use lib.ListN.{length}
+use Rattle.text.specs.Page.{page}
+use Rattle.text.proofs.Pages.{spelt, Ahead, begun, went_on, ended}
+use Rattle.listing.specs.Listing.{line, lines_from}
+use Rattle.listing.proofs.Turns.{all_lines, next_line, no_line}
+use Rattle.listing.proofs.lines.put_lines.Given as goal
+
+abbrev pub invariant-loop-k : goal.invariant-loop-k
+invariant-loop-k l = Ahead (page l.initial.out l.place) (lines_from l.answers 0 l.n) (page l.out l.next) (lines_from l.answers l.k (l.n - l.k)) × (length l.out ≡ length l.initial.out)
+
+abbrev pub decreases-loop-k : goal.decreases-loop-k
+decreases-loop-k l = l.n - l.k

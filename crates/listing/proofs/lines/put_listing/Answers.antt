@@ -1,0 +1,5 @@
+use Rattle.text.proofs.Pages.{◌then◌}
+use Rattle.listing.proofs.lines.put_listing.Goals as goal
+
+pub returns : goal.returns
+returns c = c.put_heading-next.ensures then c.put_lines.ensures
