@@ -18,7 +18,7 @@ loop-k-preserved c =
     let a = c.args in
     let put = c.put_byte-next in
     let byte = ap (λ (x : ℕ). x ∷ []) c.sent_at.ensures in
-    (went_on l.invariant.0 (listed_next (sent_by a.frame.now a.input) l.k a.end c.loop-k-test.true) (spelt put.ensures byte), put.auto.0 ∙ l.invariant.1)
+    (went_on l.invariant.0 (listed_next (sent_by a.frame.now a.input) l.k a.end c.loop-k-test.true) (spelt put.ensures byte), put.auto.out ∙ l.invariant.1)
 
 pub shape_of-out : goal.shape_of-out
 shape_of-out c = c.loop-k.invariant.1

@@ -17,7 +17,7 @@ pub loop-k-preserved : goal.loop-k-preserved
 loop-k-preserved c =
     let l = c.loop-k in
     let put = c.put_text-next in
-    (one_more _ l.k l.invariant.0 c.record_in-five.ensures put.ensures, put.auto.0 ∙ l.invariant.1, omega (arith, c.loop-k-test.true))
+    (one_more _ l.k l.invariant.0 c.record_in-five.ensures put.ensures, put.auto.out ∙ l.invariant.1, omega (arith, c.loop-k-test.true))
 
 pub shape_of-out : goal.shape_of-out
 shape_of-out c = c.loop-k.invariant.1
