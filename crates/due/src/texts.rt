@@ -1,6 +1,6 @@
 // Texts that stand one behind the other, each a length byte and its bytes.
 ghost use Rattle.std.specs.Prelude.{◌≡◌};
-ghost use Rattle.due.specs.Texts.{first_text, behind_text, behind as Texts·behind, cut, text_due, capture_in, ends_inside};
+ghost use Rattle.due.specs.Texts.{first_text, behind_text, behind, cut, text_due, capture_in, ends_inside};
 
 use routing::Output;
 
@@ -18,7 +18,7 @@ fn behind_text(input: &[u8]) -> &[u8]
 
 // What stands behind the first h texts.
 fn behind(input: &[u8], h: u8) -> &[u8]
-    ensures { result.now ≡ Texts·behind input.now h }
+    ensures { result.now ≡ behind input.now h }
 {
     if h == 0 {
         input

@@ -1,0 +1,4 @@
+use Rattle.wiring.proofs.wires.filter.Goals as goal
+
+pub returns : goal.returns
+returns c = c.filtered.ensures
