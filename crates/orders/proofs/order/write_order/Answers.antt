@@ -21,4 +21,4 @@ returns c =
     let plan =
     plan_is o c.byte_at.ensures c.cycles_in.ensures c.acks_in.ensures (cell_is o 0 p0 e0 c.part.ensures) (cell_is o 1 p1 e1 c.part-2.ensures) (cell_is o 2 p2 e2 c.part-3.ensures) (cell_is o 3 p3 e3 c.part-4.ensures) in
     let w = c.write_frame.ensures in
-    record { number = w.0 ∙ ap (λ (p : Plan). write_refusal p (length a.out.now)) plan; writes = w.1 ∙ ap (λ (p : Plan). frame_writes p a.out.now) plan }
+    record { number = w.number ∙ ap (λ (p : Plan). write_refusal p (length a.out.now)) plan; writes = w.writes ∙ ap (λ (p : Plan). frame_writes p a.out.now) plan }

@@ -1,0 +1,15 @@
+use mathlib.Core.Path.{◌∙◌}
+use Rattle.states.specs.State.{second_row}
+use Rattle.fabric.specs.Cycle.{machine, rows_after}
+use Rattle.engine.proofs.Control.{next_state}
+use Rattle.engine.proofs.Cycles.{parts_of}
+use borrow.Author.Rules.{rules}
+use Rattle.engine.proofs.cycle.step.Goals as goal
+
+pub returns : goal.returns
+unfolding rows_after
+returns c =
+    let p = c in
+    let n = p in
+    let a = n.args in
+    let m = machine a.s a.rows in record { words = parts_of m a.i p.pass_on-data.ensures.words.0 n.next_state-state.ensures p.pass_on-data.ensures.words.1; rules = λ held. parts_of m a.i (p.pass_on-data.ensures.rules held).0 (n.next_state-state.ensures ∙ next_state a.s (second_row a.rows) a.i.frame held) (p.pass_on-data.ensures.rules held).1 }

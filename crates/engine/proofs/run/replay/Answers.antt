@@ -1,0 +1,29 @@
+use mathlib.Core.Path.{sym, ◌∙◌}
+use Rattle.states.proofs.States.{held}
+use Rattle.fabric.specs.Cycle.{machine}
+use Rattle.capture.proofs.Endings.{ends_refused, ends_done}
+use Rattle.capture.proofs.Fates.{doable}
+use Rattle.engine.proofs.run.replay.Goals as goal
+
+pub run-requires : goal.run-requires
+run-requires c =
+    let t = c in
+    let d = doable _ _ _ (sym t.judge.ensures ∙ t.in-Done.is) in
+    (held _ d.accepted, d.fits)
+
+pub returns-in-Refused : goal.returns-in-Refused
+returns-in-Refused c =
+    let n = c in
+    let j = n in
+    let a = j.args in
+    let e = ends_refused (machine a.s a.rows) a.capture.now a.buffer.now j.judge.ensures n.in-Refused.is c.handed_back.ensures in
+    record { answer = e.0; writes = e.1 }
+
+pub returns-in-Done : goal.returns-in-Done
+returns-in-Done c =
+    let r = c in
+    let t = r in
+    let j = t in
+    let a = j.args in
+    let e = ends_done (machine a.s a.rows) a.capture.now a.buffer.now j.judge.ensures t.in-Done.is (r.run.ensures.state, r.run.ensures.writes) in
+    record { answer = e.0; writes = e.1 }
