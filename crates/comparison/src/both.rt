@@ -2,7 +2,7 @@
 ghost use Rattle.std.specs.Prelude.{◌≡◌, ◌≤◌, length};
 ghost use Rattle.fabric.specs.Run.{reset_machine};
 ghost use Rattle.capture.specs.Replay.{replay_writes};
-ghost use Rattle.comparison.specs.Both.{zeros as Both·zeros, both_of, kept_length, kept as Both·kept};
+ghost use Rattle.comparison.specs.Both.{zeros, both_of, kept_length, kept};
 
 use super::agreement;
 use text::Difference;
@@ -45,14 +45,14 @@ fn kept_length(total: u64) -> usize
 
 // Of the first bytes of a capture of `total` bytes, those that stand for all of it.
 pub fn kept(bytes: &[u8], total: u64) -> &[u8]
-    ensures { (result.now ≡ Both·kept bytes.now total) × (length result.now ≤ 61449) }
+    ensures { (result.now ≡ kept bytes.now total) × (length result.now ≤ 61449) }
 {
     text::part(bytes, 0, kept_length(total))
 }
 
 // Room for the answers to what is kept.
 pub fn zeros() -> [u8; 61449]
-    ensures { result ≡ Both·zeros 61449 }
+    ensures { result ≡ zeros 61449 }
 {
     [0; 61449]
 }

@@ -1,13 +1,13 @@
 // The piece of one of two texts around the first place where they differ.
 ghost use Rattle.std.specs.Prelude.{◌≡◌, ◌<◌, length};
-ghost use Rattle.numerals.specs.Piece.{holding, around as Piece·around, piece_of};
+ghost use Rattle.numerals.specs.Piece.{holding, around, piece_of};
 
 use super::numeral;
 use text::Difference;
 
 fn around(text: &[u8], k: usize) -> &[u8]
     requires { k < length text.now }
-    ensures { result.now ≡ Piece·around text.now k }
+    ensures { result.now ≡ around text.now k }
 {
     if numeral::is_numeral(text[k]) {
         let from = numeral::run_begins(text, k);
@@ -20,7 +20,7 @@ fn around(text: &[u8], k: usize) -> &[u8]
 
 pub(crate) fn piece_at<'a>(station: &'a [u8], head: &'a [u8], k: usize) -> &'a [u8]
     requires { k < length (holding station.now head.now k) }
-    ensures { result.now ≡ Piece·around (holding station.now head.now k) k }
+    ensures { result.now ≡ around (holding station.now head.now k) k }
 {
     if k < station.len() {
         around(station, k)

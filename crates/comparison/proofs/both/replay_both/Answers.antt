@@ -6,5 +6,4 @@ returns c =
     let a = c.args in
     let p = from_reset a.capture.now a.plain.now c.reset_state-s.ensures c.reset_rows-rows.ensures (c.replay-p.ensures.answer, c.replay-p.ensures.writes) in
     let g = from_reset a.capture.now a.gates.now c.reset_state-s.ensures c.reset_rows-rows.ensures (c.replay-g.ensures.answer, c.replay-g.ensures.writes) in
-    let e = (compared a.capture.now a.plain.now a.gates.now p g c.disagreement-difference.ensures, (p.1, g.1)) in
-    record { both = e.0; plain = e.1; gates = e.2 }
+    record { both = compared a.capture.now a.plain.now a.gates.now p g c.disagreement-difference.ensures; plain = p.1; gates = g.1 }
