@@ -1,6 +1,8 @@
 // Reading until a buffer is full or the input ends, and counting what comes after it.
 ghost use Rattle.std.specs.Prelude.{◌+◌, ◌≤◌, length};
 
+use std::io::Read;
+
 // How many bytes stand at the start of the buffer, and whether a read failed.
 #[derive(Clone, Copy)]
 pub struct Filled {
@@ -15,37 +17,35 @@ pub struct Taken {
     pub failed: bool,
 }
 
-fn read_once(buf: &mut [u8]) -> Filled
+fn read_once<R: Read>(from: &mut R, buf: &mut [u8]) -> Filled
     ensures { result.length ≤ length buf.old }
 {
-    let got = libc::read(0, &mut *buf);
-    if got < 0 {
-        return Filled {
+    match from.read(buf) {
+        Ok(n) => Filled {
+            length: n,
+            failed: false,
+        },
+        Err(_) => Filled {
             length: 0,
             failed: true,
-        };
-    }
-    let n = io::count(got, buf);
-    Filled {
-        length: n,
-        failed: false,
+        },
     }
 }
 
-fn read_from(buf: &mut [u8], at: usize) -> Filled
+fn read_from<R: Read>(from: &mut R, buf: &mut [u8], at: usize) -> Filled
     requires { at ≤ length buf.old }
     ensures { at + result.length ≤ length buf.old }
 {
-    read_once(&mut buf[at..])
+    read_once(from, &mut buf[at..])
 }
 
 // Reads until the buffer is full, the input ends or a read fails.
-pub fn fill(buf: &mut [u8]) -> Filled
+pub fn fill<R: Read>(from: &mut R, buf: &mut [u8]) -> Filled
     ensures { result.length ≤ length buf.new }
 {
     let mut at: usize = 0;
     while at < buf.len() {
-        let more = read_from(&mut *buf, at);
+        let more = read_from(&mut *from, &mut *buf, at);
         if more.failed {
             return Filled {
                 length: at,
@@ -69,14 +69,14 @@ pub fn fill(buf: &mut [u8]) -> Filled
 // A proved loop has to end, and nothing says that an input does: it counts its turns down, from a number that no run uses up.
 const TURNS: u64 = 140737488355328;
 
-fn count_rest() -> Taken
+fn count_rest<R: Read>(from: &mut R) -> Taken
     ensures { result.total ≤ 9223372036854775808 }
 {
     let mut space = io::large_buffer();
     let mut turns = TURNS;
     let mut total: u64 = 0;
     while turns > 0 {
-        let more = read_once(&mut space);
+        let more = read_once(&mut *from, &mut space);
         if more.failed {
             return Taken {
                 total,
@@ -99,10 +99,10 @@ fn count_rest() -> Taken
 }
 
 // Keeps the start of the input in the buffer and counts all of it.
-pub fn take_in(buf: &mut [u8]) -> Taken
+pub fn take_in<R: Read>(from: &mut R, buf: &mut [u8]) -> Taken
     ensures { result.total ≤ length buf.old + 9223372036854775808 }
 {
-    let start = fill(&mut *buf);
+    let start = fill(&mut *from, &mut *buf);
     let kept = start.length as u64;
     if start.failed {
         return Taken {
@@ -116,7 +116,7 @@ pub fn take_in(buf: &mut [u8]) -> Taken
             failed: false,
         };
     }
-    let rest = count_rest();
+    let rest = count_rest(from);
     Taken {
         total: kept + rest.total,
         failed: rest.failed,
