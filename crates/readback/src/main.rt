@@ -11,12 +11,14 @@ fn blank_page() -> [u8; 131072]
     [0; 131072]
 }
 
-fn main() {
+fn main(rt: HostRuntime) {
     let mut kept = io::large_buffer();
-    let taken = input::take_in(&mut kept);
+    let mut from = rt.stdin();
+    let taken = input::take_in(&mut from, &mut kept);
     if taken.failed {
-        io::write_all(
-            libc::STDERR_FILENO,
+        input::write_all(
+            &rt,
+            input::STDERR,
             b"cannot read the texts and the capture\n",
         );
         return;
@@ -24,8 +26,8 @@ fn main() {
     let mut page = blank_page();
     let v = readings::read_back(&kept, taken.total, &mut page);
     let n = v.length;
-    let stream = verdict::stream(v.agreed) as i32;
-    if !io::write_all(stream, &page[..n]) {
-        io::write_all(libc::STDERR_FILENO, b"cannot write the lines\n");
+    let stream = verdict::stream(v.agreed);
+    if !input::write_all(&rt, stream, &page[..n]) {
+        input::write_all(&rt, input::STDERR, b"cannot write the lines\n");
     }
 }

@@ -11,18 +11,19 @@ fn blank_page() -> [u8; 262144]
     [0; 262144]
 }
 
-fn main() {
+fn main(rt: HostRuntime) {
     let mut kept = io::large_buffer();
-    let taken = input::take_in(&mut kept);
+    let mut from = rt.stdin();
+    let taken = input::take_in(&mut from, &mut kept);
     if taken.failed {
-        io::write_all(libc::STDERR_FILENO, b"cannot read the capture\n");
+        input::write_all(&rt, input::STDERR, b"cannot read the capture\n");
         return;
     }
     let mut page = blank_page();
     let v = verdict::replay_by_both(&kept, taken.total, &mut page);
     let n = v.length;
-    let stream = verdict::stream(v.agreed) as i32;
-    if !io::write_all(stream, &page[..n]) {
-        io::write_all(libc::STDERR_FILENO, b"cannot write the listing\n");
+    let stream = verdict::stream(v.agreed);
+    if !input::write_all(&rt, stream, &page[..n]) {
+        input::write_all(&rt, input::STDERR, b"cannot write the listing\n");
     }
 }

@@ -5,6 +5,7 @@
 ghost use Rattle.std.specs.Prelude.{◌≡◌, ◌+◌, ◌≤◌, length};
 
 use input::Filled;
+use std::io::Read;
 
 // Room for the longest order: 4 bytes, and for each input a length, a header and 255 bytes of body.
 fn blank_order() -> [u8; 1032]
@@ -20,22 +21,22 @@ fn blank_page() -> [u8; 20480]
     [0; 20480]
 }
 
-fn fill_between(order: &mut [u8], have: usize, want: usize) -> Filled
+fn fill_between<R: Read>(from: &mut R, order: &mut [u8], have: usize, want: usize) -> Filled
     requires { (have ≤ want) × (want ≤ length order.old) }
     ensures { have + result.length ≤ want }
 {
-    input::fill(&mut order[have..want])
+    input::fill(from, &mut order[have..want])
 }
 
 // Reads as much as one order has, or what is left of the input.
-fn read_order(order: &mut [u8]) -> Filled
+fn read_order<R: Read>(from: &mut R, order: &mut [u8]) -> Filled
     requires { length order.old ≡ 1032 }
     ensures { result.length ≤ length order.new }
 {
     let mut have: usize = 0;
     let mut want = orders::order_size(b"");
     while have < want {
-        let more = fill_between(&mut *order, have, want);
+        let more = fill_between(&mut *from, &mut *order, have, want);
         if more.failed | (more.length == 0) {
             return Filled {
                 length: have,
@@ -52,34 +53,41 @@ fn read_order(order: &mut [u8]) -> Filled
 }
 
 // Reads the order for frame k, writes what is said to it, and answers whether to go on.
-fn answer_one(order: &mut [u8], page: &mut [u8], k: u64) -> bool
+fn answer_one<R: Read>(
+    rt: &HostRuntime,
+    from: &mut R,
+    order: &mut [u8],
+    page: &mut [u8],
+    k: u64,
+) -> bool
     requires { length order.old ≡ 1032 }
 {
-    let got = read_order(&mut *order);
+    let got = read_order(from, &mut *order);
     if got.failed {
-        io::write_all(libc::STDERR_FILENO, b"cannot read the orders\n");
+        input::write_all(rt, input::STDERR, b"cannot read the orders\n");
         return false;
     }
     let n = got.length;
     let said = orders::answer(&mut *page, &order[..n], k);
     let length = said.length;
     if !said.written {
-        io::write_all(libc::STDERR_FILENO, &page[..length]);
+        input::write_all(rt, input::STDERR, &page[..length]);
         return false;
     }
-    if !io::write_all(libc::STDOUT_FILENO, &page[..length]) {
-        io::write_all(libc::STDERR_FILENO, b"cannot write the capture\n");
+    if !input::write_all(rt, input::STDOUT, &page[..length]) {
+        input::write_all(rt, input::STDERR, b"cannot write the capture\n");
         return false;
     }
     true
 }
 
 // A proved loop has to end, and nothing says that the orders do: it counts its frames, up to a number that no run reaches.
-fn main() {
+fn main(rt: HostRuntime) {
+    let mut from = rt.stdin();
     let mut order = blank_order();
     let mut page = blank_page();
     let mut k: u64 = 0;
-    while k < u64::MAX && answer_one(&mut order, &mut page, k) {
+    while k < u64::MAX && answer_one(&rt, &mut from, &mut order, &mut page, k) {
         k += 1;
     }
 }
