@@ -5,7 +5,7 @@ use routing::Input;
 use states::State;
 
 // By the rules three answers of zeros and the reset state; by the gates a byte of answer 2, and the phase.
-fn compared(title: &[u8], byte: u8, waiting: bool) {
+fn compared(rt: &HostRuntime, title: &[u8], byte: u8, waiting: bool) {
     let s = State {
         waiting,
         shut: [true; 4],
@@ -24,10 +24,15 @@ fn compared(title: &[u8], byte: u8, waiting: bool) {
     };
     let v = verdict::put_verdict(&mut page, b, &plain);
     let n = v.length;
-    show::say(title, b": ", &page, n);
+    show::say(rt, title, b": ", &page, n);
 }
 
-pub(crate) fn made_up() {
-    compared(b"engines that differ in a byte of record 2", 0x20, false);
-    compared(b"engines that differ in the end state alone", 0, true);
+pub(crate) fn made_up(rt: &HostRuntime) {
+    compared(
+        rt,
+        b"engines that differ in a byte of record 2",
+        0x20,
+        false,
+    );
+    compared(rt, b"engines that differ in the end state alone", 0, true);
 }

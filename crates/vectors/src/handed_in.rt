@@ -27,28 +27,30 @@ pub(crate) fn image(waiting: bool, shut: [bool; 4], holders: [u8; 4], second: [u
 }
 
 // The record has every acknowledgement, and four bytes that ask nothing.
-fn tried(title: &[u8], waiting: bool, shut: [bool; 4], holders: [u8; 4]) {
+fn tried(rt: &HostRuntime, title: &[u8], waiting: bool, shut: [bool; 4], holders: [u8; 4]) {
     let bytes = image(waiting, shut, holders, [0; 4]);
     let record = b"\x0F\x02\x04\x06\x08";
-    show::cycled(title, &bytes, record);
-    show::replayed_from(title, &bytes, 5, record);
-    show::saved(title, &bytes, 18);
+    show::cycled(rt, title, &bytes, record);
+    show::replayed_from(rt, title, &bytes, 5, record);
+    show::saved(rt, title, &bytes, 18);
 }
 
-pub(crate) fn holders() {
-    tried(b"a holder of 3", false, [SHUT; 4], [0, 0, 3, 0]);
-    tried(b"a holder of 4", false, [SHUT; 4], [0, 0, 4, 0]);
+pub(crate) fn holders(rt: &HostRuntime) {
+    tried(rt, b"a holder of 3", false, [SHUT; 4], [0, 0, 3, 0]);
+    tried(rt, b"a holder of 4", false, [SHUT; 4], [0, 0, 4, 0]);
 }
 
-pub(crate) fn waiting() {
-    tried(b"waiting, all shut", true, [SHUT; 4], [0; 4]);
+pub(crate) fn waiting(rt: &HostRuntime) {
+    tried(rt, b"waiting, all shut", true, [SHUT; 4], [0; 4]);
     tried(
+        rt,
         b"waiting, one output open",
         true,
         [SHUT, SHUT, SHUT, OPEN],
         [0; 4],
     );
     tried(
+        rt,
         b"running, one output open",
         false,
         [SHUT, SHUT, SHUT, OPEN],
@@ -56,20 +58,23 @@ pub(crate) fn waiting() {
     );
 }
 
-pub(crate) fn open_twice() {
+pub(crate) fn open_twice(rt: &HostRuntime) {
     tried(
+        rt,
         b"two outputs open, one holder",
         false,
         [OPEN, SHUT, OPEN, SHUT],
         [1, 0, 1, 0],
     );
     tried(
+        rt,
         b"two outputs open, two holders",
         false,
         [OPEN, SHUT, OPEN, SHUT],
         [1, 0, 2, 0],
     );
     tried(
+        rt,
         b"one holder, one of the two outputs shut",
         false,
         [OPEN, SHUT, SHUT, SHUT],
@@ -77,14 +82,16 @@ pub(crate) fn open_twice() {
     );
 }
 
-pub(crate) fn in_order() {
+pub(crate) fn in_order(rt: &HostRuntime) {
     tried(
+        rt,
         b"14, 7 and 8 at once",
         true,
         [OPEN, SHUT, OPEN, SHUT],
         [4, 0, 4, 0],
     );
     tried(
+        rt,
         b"7 and 8 at once",
         true,
         [OPEN, SHUT, OPEN, SHUT],
@@ -92,17 +99,23 @@ pub(crate) fn in_order() {
     );
 }
 
-pub(crate) fn room() {
+pub(crate) fn room(rt: &HostRuntime) {
     let reset = image(false, [SHUT; 4], [0; 4], [0; 4]);
-    show::saved(b"reset, buffer of 17", &reset, 17);
-    show::saved(b"reset, buffer of 18", &reset, 18);
-    show::saved(b"reset, buffer of 20", &reset, 20);
+    show::saved(rt, b"reset, buffer of 17", &reset, 17);
+    show::saved(rt, b"reset, buffer of 18", &reset, 18);
+    show::saved(rt, b"reset, buffer of 20", &reset, 20);
 }
 
-pub(crate) fn before_all_else() {
+pub(crate) fn before_all_else(rt: &HostRuntime) {
     let twice = image(false, [OPEN, SHUT, OPEN, SHUT], [1, 0, 1, 0], [0; 4]);
-    show::saved(b"two outputs open, one holder, buffer of 17", &twice, 17);
+    show::saved(
+        rt,
+        b"two outputs open, one holder, buffer of 17",
+        &twice,
+        17,
+    );
     show::replayed_from(
+        rt,
         b"two outputs open, one holder, 4 bytes",
         &twice,
         4,

@@ -10,49 +10,49 @@ mod show;
 mod taking_up;
 mod turns;
 
-fn of_replays() {
-    replays::whole();
-    replays::empty();
-    replays::lengths();
-    replays::spare_bits();
-    replays::in_order();
-    replays::frame_starts();
-    long::records();
-    long::in_order();
+fn of_replays(rt: &HostRuntime) {
+    replays::whole(rt);
+    replays::empty(rt);
+    replays::lengths(rt);
+    replays::spare_bits(rt);
+    replays::in_order(rt);
+    replays::frame_starts(rt);
+    long::records(rt);
+    long::in_order(rt);
 }
 
-fn of_states() {
-    turns::edges();
-    handed_in::holders();
-    handed_in::waiting();
-    handed_in::open_twice();
-    handed_in::in_order();
-    handed_in::room();
-    handed_in::before_all_else();
+fn of_states(rt: &HostRuntime) {
+    turns::edges(rt);
+    handed_in::holders(rt);
+    handed_in::waiting(rt);
+    handed_in::open_twice(rt);
+    handed_in::in_order(rt);
+    handed_in::room(rt);
+    handed_in::before_all_else(rt);
 }
 
-fn of_saved_states() {
-    taking_up::lengths();
-    taking_up::zero_bits();
-    taking_up::waiting();
-    taking_up::open_twice();
-    taking_up::in_order();
+fn of_saved_states(rt: &HostRuntime) {
+    taking_up::lengths(rt);
+    taking_up::zero_bits(rt);
+    taking_up::waiting(rt);
+    taking_up::open_twice(rt);
+    taking_up::in_order(rt);
 }
 
-fn of_gate_words() {
-    evaluations::given();
-    evaluations::inputs();
-    evaluations::nets();
-    evaluations::bits();
-    evaluations::kinds_and_counts();
-    evaluations::earlier_nets();
-    evaluations::in_order();
+fn of_gate_words(rt: &HostRuntime) {
+    evaluations::given(rt);
+    evaluations::inputs(rt);
+    evaluations::nets(rt);
+    evaluations::bits(rt);
+    evaluations::kinds_and_counts(rt);
+    evaluations::earlier_nets(rt);
+    evaluations::in_order(rt);
 }
 
-fn main() {
-    of_replays();
-    of_states();
-    of_saved_states();
-    of_gate_words();
-    differences::made_up();
+fn main(rt: HostRuntime) {
+    of_replays(&rt);
+    of_states(&rt);
+    of_saved_states(&rt);
+    of_gate_words(&rt);
+    differences::made_up(&rt);
 }

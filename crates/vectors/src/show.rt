@@ -10,14 +10,14 @@ pub(crate) fn blank_page() -> [u8; 512]
 }
 
 // The first n bytes of a page, behind a title.
-pub(crate) fn say(title: &[u8], how: &[u8], page: &[u8], n: usize)
+pub(crate) fn say(rt: &HostRuntime, title: &[u8], how: &[u8], page: &[u8], n: usize)
     requires { n ≤ length page.now }
 {
-    let a = io::write_all(libc::STDOUT_FILENO, title);
-    let b = io::write_all(libc::STDOUT_FILENO, how);
-    let c = io::write_all(libc::STDOUT_FILENO, &page[..n]);
+    let a = input::write_all(rt, input::STDOUT, title);
+    let b = input::write_all(rt, input::STDOUT, how);
+    let c = input::write_all(rt, input::STDOUT, &page[..n]);
     if !(a & b & c) {
-        io::write_all(libc::STDERR_FILENO, b"cannot write the line\n");
+        input::write_all(rt, input::STDERR, b"cannot write the line\n");
     }
 }
 
@@ -55,16 +55,17 @@ fn join(out: &mut [u8], a: &[u8], b: &[u8], c: &[u8]) -> usize
 }
 
 // A call that is asked by three parts, one behind the other.
-fn ask(title: &[u8], how: &[u8], call: Call, a: &[u8], b: &[u8], c: &[u8]) {
+fn ask(rt: &HostRuntime, title: &[u8], how: &[u8], call: Call, a: &[u8], b: &[u8], c: &[u8]) {
     let mut asked = blank_page();
     let n = join(&mut asked, a, b, c);
     let mut page = blank_page();
     let m = put(&mut page, call, &asked[..n]);
-    say(title, how, &page, m);
+    say(rt, title, how, &page, m);
 }
 
-pub(crate) fn cycled(title: &[u8], image: &[u8], record: &[u8]) {
+pub(crate) fn cycled(rt: &HostRuntime, title: &[u8], image: &[u8], record: &[u8]) {
     ask(
+        rt,
         title,
         b", one cycle by the rules: ",
         Call::Cycle,
@@ -73,6 +74,7 @@ pub(crate) fn cycled(title: &[u8], image: &[u8], record: &[u8]) {
         b"",
     );
     ask(
+        rt,
         title,
         b", one cycle by the gates: ",
         Call::GateCycle,
@@ -83,9 +85,16 @@ pub(crate) fn cycled(title: &[u8], image: &[u8], record: &[u8]) {
 }
 
 // A capture from a state, with an answer buffer of `room` bytes.
-pub(crate) fn replayed_from(title: &[u8], image: &[u8], room: u8, capture: &[u8]) {
+pub(crate) fn replayed_from(
+    rt: &HostRuntime,
+    title: &[u8],
+    image: &[u8],
+    room: u8,
+    capture: &[u8],
+) {
     let length = [0, 0, 0, room];
     ask(
+        rt,
         title,
         b", replayed by the rules: ",
         Call::Replay,
@@ -94,6 +103,7 @@ pub(crate) fn replayed_from(title: &[u8], image: &[u8], room: u8, capture: &[u8]
         capture,
     );
     ask(
+        rt,
         title,
         b", replayed by the gates: ",
         Call::GateReplay,
@@ -103,15 +113,16 @@ pub(crate) fn replayed_from(title: &[u8], image: &[u8], room: u8, capture: &[u8]
     );
 }
 
-pub(crate) fn replayed(title: &[u8], room: u8, capture: &[u8]) {
+pub(crate) fn replayed(rt: &HostRuntime, title: &[u8], room: u8, capture: &[u8]) {
     let zeros = [0u8; 4];
     let image = image::image_of(states::reset_state(), zeros, zeros, zeros, zeros);
-    replayed_from(title, &image, room, capture);
+    replayed_from(rt, title, &image, room, capture);
 }
 
 // A state into a buffer of `room` bytes.
-pub(crate) fn saved(title: &[u8], image: &[u8], room: u8) {
+pub(crate) fn saved(rt: &HostRuntime, title: &[u8], image: &[u8], room: u8) {
     ask(
+        rt,
         title,
         b", saved: ",
         Call::Save,
@@ -121,17 +132,18 @@ pub(crate) fn saved(title: &[u8], image: &[u8], room: u8) {
     );
 }
 
-pub(crate) fn taken_up(title: &[u8], bytes: &[u8]) {
-    ask(title, b", taken up: ", Call::TakeUp, bytes, b"", b"");
+pub(crate) fn taken_up(rt: &HostRuntime, title: &[u8], bytes: &[u8]) {
+    ask(rt, title, b", taken up: ", Call::TakeUp, bytes, b"", b"");
 }
 
 // Gate words over so many block inputs, whose bits are those of `input`.
-pub(crate) fn evaluated(title: &[u8], inputs: u8, input: u16, words: &[u8]) {
+pub(crate) fn evaluated(rt: &HostRuntime, title: &[u8], inputs: u8, input: u16, words: &[u8]) {
     let high = (input / 256) as u8;
     let low = (input % 256) as u8;
     let count = [0, 0, 0, 0, 0, 0, 0, inputs];
     let bits = [0, 0, 0, 0, 0, 0, high, low];
     ask(
+        rt,
         title,
         b", evaluated: ",
         Call::Evaluate,
