@@ -6,7 +6,7 @@ use mathlib.Core.Logic.{◌↔◌}
 use Prim.Native.Nat.{ℕ, suc, ◌+◌, ◌-◌, ◌*◌, ◌<◌, ◌≤◌}
 use native.Mathlib.Omega.{arith}
 use lib.ListN.{length, get_or}
-use Rattle.routing.specs.Header.{active, asks, header_of}
+use Rattle.routing.specs.Header.{asks, header_of}
 use Rattle.routing.proofs.Fours.{at_four, not_both, yes_unless}
 use Rattle.records.specs.Record.{byte_at}
 use Rattle.runs.specs.Run.{Run, sent, head, headers_at}

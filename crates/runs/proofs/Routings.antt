@@ -10,7 +10,7 @@ use lib.Dec.{ltb}
 use borrow.Author.Tests.{ltb-true, ltb-false}
 use Rattle.routing.proofs.Fours.{no_unless}
 use Rattle.routing.specs.Four.{bit}
-use Rattle.routing.specs.Route.{asked, remains, winner}
+use Rattle.routing.specs.Route.{remains, winner}
 use Rattle.runs.specs.Run.{Run, holder, headers_at}
 use Rattle.runs.specs.Routing.{RoutingAt, NoRoutingAt, AskedFor, InHighestClass, Wins, routings_before, KthRouting}
 use Rattle.runs.specs.Routings.{InARow, WinsOneOf, FourRoutings}

@@ -1,5 +1,5 @@
 -- Something is on its way to a head exactly if the head will show it.
-use Rattle.std.specs.Prelude.{Bool, true, false, ◌≡◌, ◌↔◌, [], ◌∷◌, ℕ, ◌<◌}
+use Rattle.std.specs.Prelude.{true, false, ◌≡◌, ◌↔◌, [], ◌∷◌, ℕ, ◌<◌}
 use Rattle.routing.specs.Port.{input}
 use Rattle.routing.specs.Four.{four}
 use Rattle.states.specs.State.{zero_row}

@@ -1,4 +1,3 @@
-use borrow.Author.Tests.{not-true, not-false}
 use mathlib.Core.Path.{sym, ap, ◌∙◌}
 use Rattle.text.proofs.Lists.{part_length}
 use Rattle.text.proofs.Pages.{spelt}

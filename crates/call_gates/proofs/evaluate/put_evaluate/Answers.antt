@@ -1,7 +1,6 @@
 use mathlib.Core.Path.{sym, ap, ◌∙◌}
 use native.Mathlib.Omega.{arith}
 use lib.Seq.{length-take-le}
-use borrow.Author.Tests.{not-true, not-false}
 use Rattle.text.proofs.Pages.{spelt}
 use Rattle.call_gates.specs.Evaluate.{evaluated_text, evaluate_line}
 use Rattle.call_gates.proofs.Words.{fitted, evaluated_by}

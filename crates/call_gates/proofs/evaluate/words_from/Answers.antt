@@ -1,7 +1,7 @@
 use mathlib.Core.Path.{◌≡◌, refl, sym, ap, ◌∙◌}
-use Prim.Native.Nat.{ℕ, ◌-◌, ◌≤◌}
+use Prim.Native.Nat.{ℕ}
 use native.Mathlib.Omega.{arith}
-use lib.ListN.{length, take, length-set}
+use lib.ListN.{take, length-set}
 use Rattle.call_gates.specs.Evaluate.{gate_words}
 use Rattle.call_gates.proofs.Words.{next_word}
 use Rattle.call_gates.proofs.evaluate.words_from.Goals as goal

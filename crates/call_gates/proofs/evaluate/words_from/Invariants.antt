@@ -1,9 +1,7 @@
-use mathlib.Core.Path.{◌≡◌, refl, sym, ap, ◌∙◌}
-use Prim.Native.Nat.{ℕ, ◌-◌, ◌≤◌}
-use native.Mathlib.Omega.{arith}
-use lib.ListN.{length, take, length-set}
+use mathlib.Core.Path.{◌≡◌}
+use Prim.Native.Nat.{◌-◌, ◌≤◌}
+use lib.ListN.{length, take}
 use Rattle.call_gates.specs.Evaluate.{gate_words}
-use Rattle.call_gates.proofs.Words.{next_word}
 use Rattle.call_gates.proofs.evaluate.words_from.Given as goal
 
 abbrev pub invariant-loop-i : goal.invariant-loop-i

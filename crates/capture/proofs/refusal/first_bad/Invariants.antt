@@ -1,11 +1,6 @@
-use mathlib.Core.Path.{◌≡◌, sym, ap, ◌∙◌}
+use mathlib.Core.Path.{◌≡◌}
 use Prim.Native.Nat.{◌-◌}
-use native.Mathlib.Omega.{arith}
-use Rattle.records.specs.Record.{spare_set}
-use Rattle.places.specs.Capture.{records}
 use Rattle.capture.specs.Refusal.{first_bad}
-use Rattle.places.proofs.Records.{first_byte}
-use Rattle.capture.proofs.Bads.{found, passed, none}
 use Rattle.capture.proofs.refusal.first_bad.Given as goal
 
 abbrev pub invariant-loop-k : goal.invariant-loop-k

@@ -1,13 +1,13 @@
 use mathlib.Core.Path.{◌≡◌, ap, ◌∙◌}
 use mathlib.Core.List.{List, [], ◌∷◌}
-use Prim.Native.Nat.{ℕ, ◌-◌}
+use Prim.Native.Nat.{ℕ}
 use native.Mathlib.Omega.{arith}
 use Rattle.fabric.specs.declared.cycle.Cycled.{Cycled}
 use Rattle.fabric.specs.Cycle.{machine, rows_after, step_of}
 use Rattle.records.specs.Record.{inputs_from}
 use Rattle.places.specs.Capture.{inputs_in, with_answer}
 use Rattle.capture.specs.Replay.{handed_back}
-use Rattle.capture.proofs.Loops.{After, start, turn, finished}
+use Rattle.capture.proofs.Loops.{start, turn, finished}
 use Rattle.capture.proofs.run.run.Goals as goal
 
 -- the rows that a cycle hands on

@@ -1,13 +1,6 @@
-use mathlib.Core.Path.{◌≡◌, ap, ◌∙◌}
-use mathlib.Core.List.{List, [], ◌∷◌}
-use Prim.Native.Nat.{ℕ, ◌-◌}
-use native.Mathlib.Omega.{arith}
-use Rattle.fabric.specs.declared.cycle.Cycled.{Cycled}
-use Rattle.fabric.specs.Cycle.{machine, rows_after, step_of}
-use Rattle.records.specs.Record.{inputs_from}
-use Rattle.places.specs.Capture.{inputs_in, with_answer}
-use Rattle.capture.specs.Replay.{handed_back}
-use Rattle.capture.proofs.Loops.{After, start, turn, finished}
+use Prim.Native.Nat.{◌-◌}
+use Rattle.fabric.specs.Cycle.{machine}
+use Rattle.capture.proofs.Loops.{After}
 use Rattle.capture.proofs.run.run.Given as goal
 
 abbrev pub invariant-loop-k : goal.invariant-loop-k

@@ -3,7 +3,6 @@ use Rattle.states.specs.State.{second_row}
 use Rattle.fabric.specs.Cycle.{machine, rows_after}
 use Rattle.engine.proofs.Control.{next_state}
 use Rattle.engine.proofs.Cycles.{parts_of}
-use borrow.Author.Rules.{rules}
 use Rattle.engine.proofs.cycle.step.Goals as goal
 
 pub returns : goal.returns

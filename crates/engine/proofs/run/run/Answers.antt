@@ -1,6 +1,6 @@
 use mathlib.Core.Path.{◌≡◌, sym, ap, subst, ◌∙◌}
 use mathlib.Core.List.{List, [], ◌∷◌}
-use Prim.Native.Nat.{ℕ, ◌-◌}
+use Prim.Native.Nat.{ℕ}
 use native.Mathlib.Omega.{arith}
 use Rattle.fabric.specs.declared.cycle.Inputs.{Inputs}
 use Rattle.states.specs.State.{Held}
@@ -11,7 +11,7 @@ use Rattle.engine.proofs.Cycles.{held_after}
 use Rattle.records.specs.Record.{inputs_from}
 use Rattle.places.specs.Capture.{inputs_in, with_answer}
 use Rattle.capture.specs.Replay.{handed_back}
-use Rattle.capture.proofs.Loops.{After, start, turn, finished}
+use Rattle.capture.proofs.Loops.{start, turn, finished}
 use Rattle.engine.proofs.run.run.Goals as goal
 
 -- the rows that a cycle hands on

@@ -1,17 +1,7 @@
-use mathlib.Core.Path.{◌≡◌, sym, ap, subst, ◌∙◌}
-use mathlib.Core.List.{List, [], ◌∷◌}
-use Prim.Native.Nat.{ℕ, ◌-◌}
-use native.Mathlib.Omega.{arith}
-use Rattle.fabric.specs.declared.cycle.Inputs.{Inputs}
+use Prim.Native.Nat.{◌-◌}
 use Rattle.states.specs.State.{Held}
-use Rattle.fabric.specs.Cycle.{machine, rows_after, step_of}
-use Rattle.engine.specs.declared.cycle.GateCycled.{GateCycled}
-use Rattle.engine.specs.Cycle.{unreported}
-use Rattle.engine.proofs.Cycles.{held_after}
-use Rattle.records.specs.Record.{inputs_from}
-use Rattle.places.specs.Capture.{inputs_in, with_answer}
-use Rattle.capture.specs.Replay.{handed_back}
-use Rattle.capture.proofs.Loops.{After, start, turn, finished}
+use Rattle.fabric.specs.Cycle.{machine}
+use Rattle.capture.proofs.Loops.{After}
 use Rattle.engine.proofs.run.run.Given as goal
 
 abbrev pub invariant-loop-k : goal.invariant-loop-k

@@ -1,4 +1,3 @@
-use borrow.Author.Tests.{not-true, not-false}
 use Rattle.fabric.proofs.Cycles.{stays, moves, keeps}
 use Rattle.fabric.proofs.cycle.holder_after.Goals as goal
 

@@ -1,7 +1,7 @@
 use mathlib.Core.Path.{sym, ap, ◌∙◌}
 use Prim.Native.Nat.{ℕ, ◌%◌}
 use native.Mathlib.Omega.{arith}
-use Rattle.frames.proofs.Searches.{no_cell_here, Trimmed, begin, shorter, ended}
+use Rattle.frames.proofs.Searches.{no_cell_here, begin, shorter, ended}
 use Rattle.frames.proofs.reading.cell_end.Goals as goal
 
 pub returns-then-sent_at-ne1 : goal.returns-then-sent_at-ne1

@@ -1,7 +1,4 @@
-use mathlib.Core.Path.{sym, ap, ◌∙◌}
-use Prim.Native.Nat.{ℕ, ◌%◌}
-use native.Mathlib.Omega.{arith}
-use Rattle.frames.proofs.Searches.{no_cell_here, Trimmed, begin, shorter, ended}
+use Rattle.frames.proofs.Searches.{Trimmed}
 use Rattle.frames.proofs.reading.cell_end.Given as goal
 
 abbrev pub invariant-loop-end : goal.invariant-loop-end

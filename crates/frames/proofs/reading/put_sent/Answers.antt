@@ -1,11 +1,8 @@
-use mathlib.Core.Path.{◌≡◌, refl, ap, ◌∙◌}
+use mathlib.Core.Path.{refl, ap, ◌∙◌}
 use mathlib.Core.List.{[], ◌∷◌}
-use Prim.Native.Nat.{ℕ, ◌-◌}
-use native.Mathlib.Omega.{arith}
-use lib.ListN.{length}
-use Rattle.text.specs.Page.{page}
-use Rattle.text.proofs.Pages.{Ahead, begun, went_on, ended, spelt}
-use Rattle.frames.specs.Reading.{sent_by, sent_from}
+use Prim.Native.Nat.{ℕ}
+use Rattle.text.proofs.Pages.{begun, went_on, ended, spelt}
+use Rattle.frames.specs.Reading.{sent_by}
 use Rattle.frames.proofs.Lists.{listed_next, listed_none}
 use Rattle.frames.proofs.reading.put_sent.Goals as goal
 

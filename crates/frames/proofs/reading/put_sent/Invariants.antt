@@ -1,12 +1,9 @@
-use mathlib.Core.Path.{◌≡◌, refl, ap, ◌∙◌}
-use mathlib.Core.List.{[], ◌∷◌}
-use Prim.Native.Nat.{ℕ, ◌-◌}
-use native.Mathlib.Omega.{arith}
+use mathlib.Core.Path.{◌≡◌}
+use Prim.Native.Nat.{◌-◌}
 use lib.ListN.{length}
 use Rattle.text.specs.Page.{page}
-use Rattle.text.proofs.Pages.{Ahead, begun, went_on, ended, spelt}
-use Rattle.frames.specs.Reading.{sent_by, sent_from}
-use Rattle.frames.proofs.Lists.{listed_next, listed_none}
+use Rattle.text.proofs.Pages.{Ahead}
+use Rattle.frames.specs.Reading.{sent_from}
 use Rattle.frames.proofs.reading.put_sent.Given as goal
 
 abbrev pub invariant-loop-k : goal.invariant-loop-k

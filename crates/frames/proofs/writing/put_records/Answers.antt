@@ -1,11 +1,6 @@
 use mathlib.Core.Path.{◌≡◌, refl, ap, ◌∙◌}
-use mathlib.Core.List.{[], ◌∷◌}
-use Prim.Native.Nat.{◌-◌, ◌≤◌}
 use native.Mathlib.Omega.{arith}
-use lib.ListN.{length}
-use Rattle.text.specs.Page.{page, Wrote}
 use Rattle.text.proofs.Pages.{spelt}
-use Rattle.plans.specs.Plan.{planned}
 use Rattle.frames.specs.Writing.{records_of}
 use Rattle.frames.proofs.Writes.{none_yet, one_more}
 use Rattle.frames.proofs.writing.put_records.Goals as goal

@@ -1,7 +1,4 @@
-use mathlib.Core.Path.{◌≡◌, sym, ◌∙◌}
-use Prim.Native.Nat.{◌+◌, ◌-◌, ◌≤◌}
-use lib.ListN.{length, drop}
-use Rattle.gates.specs.Evaluation.{first_fault}
+use mathlib.Core.Path.{sym, ◌∙◌}
 use Rattle.gates.proofs.Loops.{fault_start, found_11, found_12, fault_again, none_found}
 use borrow.Author.Rules.{rules}
 use Rattle.gates.proofs.evaluator.first_fault.Goals as goal

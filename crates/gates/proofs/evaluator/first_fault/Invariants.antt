@@ -1,8 +1,7 @@
-use mathlib.Core.Path.{◌≡◌, sym, ◌∙◌}
+use mathlib.Core.Path.{◌≡◌}
 use Prim.Native.Nat.{◌+◌, ◌-◌, ◌≤◌}
 use lib.ListN.{length, drop}
 use Rattle.gates.specs.Evaluation.{first_fault}
-use Rattle.gates.proofs.Loops.{fault_start, found_11, found_12, fault_again, none_found}
 use Rattle.gates.proofs.evaluator.first_fault.Given as goal
 
 abbrev pub invariant-loop-i : goal.invariant-loop-i

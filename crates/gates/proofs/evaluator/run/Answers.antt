@@ -1,8 +1,4 @@
-use mathlib.Core.Path.{◌≡◌}
-use Prim.Native.Nat.{◌+◌, ◌-◌, ◌^◌, ◌≤◌, ◌<◌}
 use native.Mathlib.Nat.{add-zero, add_assoc}
-use lib.ListN.{length, drop}
-use Rattle.gates.specs.Evaluation.{nets_after}
 use Rattle.gates.proofs.Loops.{nets_start, nets_again, nets_end}
 use borrow.Author.Rules.{rules}
 use Rattle.gates.proofs.evaluator.run.Goals as goal

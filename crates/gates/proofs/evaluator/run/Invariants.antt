@@ -1,9 +1,7 @@
 use mathlib.Core.Path.{◌≡◌}
 use Prim.Native.Nat.{◌+◌, ◌-◌, ◌^◌, ◌≤◌, ◌<◌}
-use native.Mathlib.Nat.{add-zero, add_assoc}
 use lib.ListN.{length, drop}
 use Rattle.gates.specs.Evaluation.{nets_after}
-use Rattle.gates.proofs.Loops.{nets_start, nets_again, nets_end}
 use Rattle.gates.proofs.evaluator.run.Given as goal
 
 abbrev pub invariant-loop-i : goal.invariant-loop-i

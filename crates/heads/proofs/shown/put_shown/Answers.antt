@@ -1,12 +1,10 @@
-use mathlib.Core.Path.{◌≡◌, refl, ap, ◌∙◌}
+use mathlib.Core.Path.{refl, ap, ◌∙◌}
 use mathlib.Core.List.{[], ◌∷◌}
-use Prim.Native.Nat.{ℕ, ◌-◌}
+use Prim.Native.Nat.{ℕ}
 use native.Mathlib.Omega.{arith}
-use lib.ListN.{length}
-use Rattle.text.specs.Page.{page}
-use Rattle.text.proofs.Pages.{spelt, Ahead, begun, went_on, ended}
-use Rattle.heads.specs.Shown.{without_zeros, shown_from}
-use Rattle.heads.proofs.Shows.{left, at_first, next_cycle, at_last}
+use Rattle.text.proofs.Pages.{spelt, begun, went_on, ended}
+use Rattle.heads.specs.Shown.{without_zeros}
+use Rattle.heads.proofs.Shows.{at_first, next_cycle, at_last}
 use Rattle.heads.proofs.shown.put_shown.Goals as goal
 
 pub loop-k-init : goal.loop-k-init

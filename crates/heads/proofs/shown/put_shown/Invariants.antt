@@ -1,12 +1,10 @@
-use mathlib.Core.Path.{◌≡◌, refl, ap, ◌∙◌}
-use mathlib.Core.List.{[], ◌∷◌}
-use Prim.Native.Nat.{ℕ, ◌-◌}
-use native.Mathlib.Omega.{arith}
+use mathlib.Core.Path.{◌≡◌}
+use Prim.Native.Nat.{◌-◌}
 use lib.ListN.{length}
 use Rattle.text.specs.Page.{page}
-use Rattle.text.proofs.Pages.{spelt, Ahead, begun, went_on, ended}
+use Rattle.text.proofs.Pages.{Ahead}
 use Rattle.heads.specs.Shown.{without_zeros, shown_from}
-use Rattle.heads.proofs.Shows.{left, at_first, next_cycle, at_last}
+use Rattle.heads.proofs.Shows.{left}
 use Rattle.heads.proofs.shown.put_shown.Given as goal
 
 abbrev pub invariant-loop-k : goal.invariant-loop-k

@@ -1,10 +1,5 @@
-use mathlib.Core.Path.{◌≡◌, refl, ◌∙◌}
-use Prim.Native.Nat.{◌-◌}
-use native.Mathlib.Omega.{arith}
-use lib.ListN.{length, drop}
-use Rattle.text.specs.Page.{page}
-use Rattle.text.proofs.Pages.{◌then◌, Ahead, begun, went_on, ended}
-use Rattle.listing.specs.Listing.{columns}
+use mathlib.Core.Path.{refl, ◌∙◌}
+use Rattle.text.proofs.Pages.{◌then◌, begun, went_on, ended}
 use Rattle.listing.proofs.Turns.{next_column, no_column}
 use Rattle.listing.proofs.lines.put_columns.Goals as goal
 

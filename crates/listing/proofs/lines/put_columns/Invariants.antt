@@ -1,11 +1,9 @@
-use mathlib.Core.Path.{◌≡◌, refl, ◌∙◌}
+use mathlib.Core.Path.{◌≡◌}
 use Prim.Native.Nat.{◌-◌}
-use native.Mathlib.Omega.{arith}
 use lib.ListN.{length, drop}
 use Rattle.text.specs.Page.{page}
-use Rattle.text.proofs.Pages.{◌then◌, Ahead, begun, went_on, ended}
+use Rattle.text.proofs.Pages.{Ahead}
 use Rattle.listing.specs.Listing.{columns}
-use Rattle.listing.proofs.Turns.{next_column, no_column}
 use Rattle.listing.proofs.lines.put_columns.Given as goal
 
 abbrev pub invariant-loop-i : goal.invariant-loop-i

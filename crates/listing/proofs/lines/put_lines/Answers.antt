@@ -1,10 +1,6 @@
-use mathlib.Core.Path.{◌≡◌, refl, ap, ◌∙◌}
-use Prim.Native.Nat.{◌-◌}
-use native.Mathlib.Omega.{arith}
-use lib.ListN.{length}
-use Rattle.text.specs.Page.{page}
-use Rattle.text.proofs.Pages.{spelt, Ahead, begun, went_on, ended}
-use Rattle.listing.specs.Listing.{line, lines_from}
+use mathlib.Core.Path.{refl, ap, ◌∙◌}
+use Rattle.text.proofs.Pages.{spelt, begun, went_on, ended}
+use Rattle.listing.specs.Listing.{line}
 use Rattle.listing.proofs.Turns.{all_lines, next_line, no_line}
 use Rattle.listing.proofs.lines.put_lines.Goals as goal
 

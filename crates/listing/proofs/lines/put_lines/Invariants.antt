@@ -1,11 +1,9 @@
-use mathlib.Core.Path.{◌≡◌, refl, ap, ◌∙◌}
+use mathlib.Core.Path.{◌≡◌}
 use Prim.Native.Nat.{◌-◌}
-use native.Mathlib.Omega.{arith}
 use lib.ListN.{length}
 use Rattle.text.specs.Page.{page}
-use Rattle.text.proofs.Pages.{spelt, Ahead, begun, went_on, ended}
-use Rattle.listing.specs.Listing.{line, lines_from}
-use Rattle.listing.proofs.Turns.{all_lines, next_line, no_line}
+use Rattle.text.proofs.Pages.{Ahead}
+use Rattle.listing.specs.Listing.{lines_from}
 use Rattle.listing.proofs.lines.put_lines.Given as goal
 
 abbrev pub invariant-loop-k : goal.invariant-loop-k

@@ -1,7 +1,5 @@
-use mathlib.Core.Path.{◌≡◌, refl, sym, ◌∙◌}
-use Prim.Native.Nat.{◌≤◌}
+use mathlib.Core.Path.{refl, sym, ◌∙◌}
 use native.Mathlib.Omega.{arith}
-use Rattle.numerals.specs.Numeral.{run_begins}
 use Rattle.numerals.proofs.Runs.{begins_back, begins_here, begins_first}
 use Rattle.numerals.proofs.numeral.run_begins.Goals as goal
 

@@ -1,8 +1,6 @@
-use mathlib.Core.Path.{◌≡◌, refl, sym, ◌∙◌}
+use mathlib.Core.Path.{◌≡◌}
 use Prim.Native.Nat.{◌≤◌}
-use native.Mathlib.Omega.{arith}
 use Rattle.numerals.specs.Numeral.{run_begins}
-use Rattle.numerals.proofs.Runs.{begins_back, begins_here, begins_first}
 use Rattle.numerals.proofs.numeral.run_begins.Given as goal
 
 abbrev pub invariant-loop-at : goal.invariant-loop-at

@@ -1,8 +1,5 @@
-use mathlib.Core.Path.{◌≡◌, refl, sym, ◌∙◌}
-use Prim.Native.Nat.{◌-◌, ◌≤◌}
+use mathlib.Core.Path.{refl, sym, ◌∙◌}
 use native.Mathlib.Omega.{arith}
-use lib.ListN.{length}
-use Rattle.numerals.specs.Numeral.{run_ends}
 use Rattle.numerals.proofs.Runs.{ends_on, ends_here, ends_last}
 use Rattle.numerals.proofs.numeral.run_ends.Goals as goal
 

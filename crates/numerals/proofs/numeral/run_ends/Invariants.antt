@@ -1,9 +1,7 @@
-use mathlib.Core.Path.{◌≡◌, refl, sym, ◌∙◌}
+use mathlib.Core.Path.{◌≡◌}
 use Prim.Native.Nat.{◌-◌, ◌≤◌}
-use native.Mathlib.Omega.{arith}
 use lib.ListN.{length}
 use Rattle.numerals.specs.Numeral.{run_ends}
-use Rattle.numerals.proofs.Runs.{ends_on, ends_here, ends_last}
 use Rattle.numerals.proofs.numeral.run_ends.Given as goal
 
 abbrev pub invariant-loop-at : goal.invariant-loop-at

@@ -1,9 +1,6 @@
-use mathlib.Core.Path.{◌≡◌, refl, sym, ◌∙◌}
-use Prim.Native.Nat.{◌-◌, ◌≤◌, min}
+use mathlib.Core.Path.{refl, sym, ◌∙◌}
 use native.Mathlib.Omega.{arith}
-use lib.ListN.{length}
-use Rattle.text.specs.Differ.{first_difference}
-use Rattle.text.proofs.Differences.{from_here, same_here, differ_here, both_end, one_ends}
+use Rattle.text.proofs.Differences.{same_here, differ_here, both_end, one_ends}
 use Rattle.text.proofs.difference.first_difference.Goals as goal
 
 pub loop-i-init : goal.loop-i-init

@@ -1,9 +1,8 @@
-use mathlib.Core.Path.{◌≡◌, refl, sym, ◌∙◌}
+use mathlib.Core.Path.{◌≡◌}
 use Prim.Native.Nat.{◌-◌, ◌≤◌, min}
-use native.Mathlib.Omega.{arith}
 use lib.ListN.{length}
 use Rattle.text.specs.Differ.{first_difference}
-use Rattle.text.proofs.Differences.{from_here, same_here, differ_here, both_end, one_ends}
+use Rattle.text.proofs.Differences.{from_here}
 use Rattle.text.proofs.difference.first_difference.Given as goal
 
 abbrev pub invariant-loop-i : goal.invariant-loop-i

@@ -1,10 +1,7 @@
-use mathlib.Core.Path.{◌≡◌, refl, ap, ◌∙◌}
-use Prim.Native.Nat.{◌-◌}
-use native.Mathlib.Omega.{arith}
-use lib.ListN.{length, drop, drop_of_length-le}
-use Rattle.text.specs.Page.{page}
+use mathlib.Core.Path.{refl, ap, ◌∙◌}
+use lib.ListN.{drop_of_length-le}
 use Rattle.text.specs.Digits.{hexes}
-use Rattle.text.proofs.Pages.{Ahead, begun, went_on, ended, next_pair}
+use Rattle.text.proofs.Pages.{begun, went_on, ended, next_pair}
 use Rattle.text.proofs.digits.put_hex.Goals as goal
 
 pub loop-i-init : goal.loop-i-init

@@ -1,10 +1,9 @@
-use mathlib.Core.Path.{◌≡◌, refl, ap, ◌∙◌}
+use mathlib.Core.Path.{◌≡◌}
 use Prim.Native.Nat.{◌-◌}
-use native.Mathlib.Omega.{arith}
-use lib.ListN.{length, drop, drop_of_length-le}
+use lib.ListN.{length, drop}
 use Rattle.text.specs.Page.{page}
 use Rattle.text.specs.Digits.{hexes}
-use Rattle.text.proofs.Pages.{Ahead, begun, went_on, ended, next_pair}
+use Rattle.text.proofs.Pages.{Ahead}
 use Rattle.text.proofs.digits.put_hex.Given as goal
 
 abbrev pub invariant-loop-i : goal.invariant-loop-i

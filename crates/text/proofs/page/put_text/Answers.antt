@@ -1,9 +1,6 @@
-use mathlib.Core.Path.{◌≡◌, refl, ◌∙◌}
-use Prim.Native.Nat.{◌-◌}
-use native.Mathlib.Omega.{arith}
-use lib.ListN.{length, drop, drop_of_length-le}
-use Rattle.text.specs.Page.{page}
-use Rattle.text.proofs.Pages.{Ahead, begun, went_on, ended, next_byte}
+use mathlib.Core.Path.{refl, ◌∙◌}
+use lib.ListN.{drop_of_length-le}
+use Rattle.text.proofs.Pages.{begun, went_on, ended, next_byte}
 use Rattle.text.proofs.page.put_text.Goals as goal
 
 pub loop-i-init : goal.loop-i-init

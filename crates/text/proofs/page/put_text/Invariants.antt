@@ -1,9 +1,8 @@
-use mathlib.Core.Path.{◌≡◌, refl, ◌∙◌}
+use mathlib.Core.Path.{◌≡◌}
 use Prim.Native.Nat.{◌-◌}
-use native.Mathlib.Omega.{arith}
-use lib.ListN.{length, drop, drop_of_length-le}
+use lib.ListN.{length, drop}
 use Rattle.text.specs.Page.{page}
-use Rattle.text.proofs.Pages.{Ahead, begun, went_on, ended, next_byte}
+use Rattle.text.proofs.Pages.{Ahead}
 use Rattle.text.proofs.page.put_text.Given as goal
 
 abbrev pub invariant-loop-i : goal.invariant-loop-i
