@@ -8,7 +8,7 @@ use std::sync::mpsc;
 use std::thread;
 use std::time::Duration;
 
-/// Long enough for an emulator; it only ends programs that hang.
+/// Long enough for a slow machine; it only ends programs that hang.
 const PATIENCE: Duration = Duration::from_secs(600);
 /// How much more than expected is read before a program is stopped.
 const SLACK: usize = 65_536;
@@ -25,7 +25,7 @@ pub struct Run {
 }
 
 impl Program {
-    /// The words stand before the path, as an emulator and its options do.
+    /// The words stand before the path, as `env` and its options do.
     pub fn new(before: &[String], path: &Path, after: &[&str]) -> Program {
         let mut words: Vec<OsString> = before.iter().map(OsString::from).collect();
         words.push(path.into());
