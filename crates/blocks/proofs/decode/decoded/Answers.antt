@@ -5,5 +5,4 @@ use Rattle.blocks.proofs.decode.decoded.Goals as goal
 pub returns : goal.returns
 unfolding decoded
 returns c =
-    let v = c in
-    eight_nets decode_words 4 v.lines.ensures.0 v.value-v.ensures (λ h a. record { high = h; asks = a }) 6 7 8 9 10 11 12 13 c.four_nets.ensures c.four_nets-2.ensures
+    eight_nets decode_words 4 c.lines.ensures.0 c.value-v.ensures (λ h a. record { high = h; asks = a }) 6 7 8 9 10 11 12 13 c.four_nets.ensures c.four_nets-2.ensures

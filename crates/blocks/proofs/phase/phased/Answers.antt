@@ -5,5 +5,4 @@ use Rattle.blocks.proofs.phase.phased.Goals as goal
 pub returns : goal.returns
 unfolding phased
 returns c =
-    let v = c in
-    two_nets phase_words 6 v.lines.ensures.0 v.value-v.ensures (λ r w. record { routing = r; waiting = w }) 7 10 c.net.ensures c.net-2.ensures
+    two_nets phase_words 6 c.lines.ensures.0 c.value-v.ensures (λ r w. record { routing = r; waiting = w }) 7 10 c.net.ensures c.net-2.ensures

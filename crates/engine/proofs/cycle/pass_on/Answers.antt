@@ -12,8 +12,6 @@ byte c h l = search rules
 
 pub returns : goal.returns
 returns c =
-    let k = c in
-    let l = k in
-    let a = l.args in
-    let to = acks_wired a.s a.acks a.second l.select_all-lets.ensures k.acknowledge_all.ensures in
-    let sw = switch_wired a.s a.acks a.second l.select_all-lets.ensures c.switch_all.ensures in record { words = (to, sw); rules = λ held. (to ∙ acks_made a.s held a.acks, sw ∙ switch_made a.s held a.second (λ h l. (byte c h l).fits)) }
+    let a = c.args in
+    let to = acks_wired a.s a.acks a.second c.select_all-lets.ensures c.acknowledge_all.ensures in
+    let sw = switch_wired a.s a.acks a.second c.select_all-lets.ensures c.switch_all.ensures in record { words = (to, sw); rules = λ held. (to ∙ acks_made a.s held a.acks, sw ∙ switch_made a.s held a.second (λ h l. (byte c h l).fits)) }

@@ -13,7 +13,6 @@ returns-then-number-ne0 c =
 
 pub returns : goal.returns
 returns c =
-    let r = c in
-    let a = r.args in
-    c.step.ensures.rules (held a.s (sym r.refusal-number.ensures ∙ c.if-number-ne0.false))
-    ∙ ap unreported (answered r.refusal-number.ensures (step_of (machine a.s a.rows) a.i) _ c.if-number-ne0.false)
+    let a = c.args in
+    c.step.ensures.rules (held a.s (sym c.refusal-number.ensures ∙ c.if-number-ne0.false))
+    ∙ ap unreported (answered c.refusal-number.ensures (step_of (machine a.s a.rows) a.i) _ c.if-number-ne0.false)

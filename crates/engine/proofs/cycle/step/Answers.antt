@@ -8,7 +8,5 @@ use Rattle.engine.proofs.cycle.step.Goals as goal
 pub returns : goal.returns
 unfolding rows_after
 returns c =
-    let p = c in
-    let n = p in
-    let a = n.args in
-    let m = machine a.s a.rows in record { words = parts_of m a.i p.pass_on-data.ensures.words.0 n.next_state-state.ensures p.pass_on-data.ensures.words.1; rules = λ held. parts_of m a.i (p.pass_on-data.ensures.rules held).0 (n.next_state-state.ensures ∙ next_state a.s (second_row a.rows) a.i.frame held) (p.pass_on-data.ensures.rules held).1 }
+    let a = c.args in
+    let m = machine a.s a.rows in record { words = parts_of m a.i c.pass_on-data.ensures.words.0 c.next_state-state.ensures c.pass_on-data.ensures.words.1; rules = λ held. parts_of m a.i (c.pass_on-data.ensures.rules held).0 (c.next_state-state.ensures ∙ next_state a.s (second_row a.rows) a.i.frame held) (c.pass_on-data.ensures.rules held).1 }

@@ -7,23 +7,17 @@ use Rattle.engine.proofs.run.replay.Goals as goal
 
 pub run-requires : goal.run-requires
 run-requires c =
-    let t = c in
-    let d = doable _ _ _ (sym t.judge.ensures ∙ t.in-Done.is) in
+    let d = doable _ _ _ (sym c.judge.ensures ∙ c.in-Done.is) in
     (held _ d.accepted, d.fits)
 
 pub returns-in-Refused : goal.returns-in-Refused
 returns-in-Refused c =
-    let n = c in
-    let j = n in
-    let a = j.args in
-    let e = ends_refused (machine a.s a.rows) a.capture.now a.buffer.now j.judge.ensures n.in-Refused.is c.handed_back.ensures in
+    let a = c.args in
+    let e = ends_refused (machine a.s a.rows) a.capture.now a.buffer.now c.judge.ensures c.in-Refused.is c.handed_back.ensures in
     record { answer = e.0; writes = e.1 }
 
 pub returns-in-Done : goal.returns-in-Done
 returns-in-Done c =
-    let r = c in
-    let t = r in
-    let j = t in
-    let a = j.args in
-    let e = ends_done (machine a.s a.rows) a.capture.now a.buffer.now j.judge.ensures t.in-Done.is (r.run.ensures.state, r.run.ensures.writes) in
+    let a = c.args in
+    let e = ends_done (machine a.s a.rows) a.capture.now a.buffer.now c.judge.ensures c.in-Done.is (c.run.ensures.state, c.run.ensures.writes) in
     record { answer = e.0; writes = e.1 }

@@ -27,18 +27,13 @@ overflow_add-k c = omega (arith, c.loop-k-test.true, c.well_formed.1.1.0.0)
 pub loop-k-preserved : goal.loop-k-preserved
 unfolding rows_after
 loop-k-preserved c =
-    let p = c in
-    let f = p in
-    let i = f in
-    let e = i in
-    let l = e.loop-k in
-    let z = e in
-    let a = z.args in
+    let l = c.loop-k in
+    let a = c.args in
     let m = machine l.state l.r in
-    let t : f.step-t.result ≡ unreported (step_of m (inputs_in a.capture.now l.k)) =
-    f.step-t.ensures.rules l.invariant.1 ∙ ap (λ (x : Inputs). unreported (step_of m x)) (i.inputs_from-i.ensures ∙ ap inputs_from e.record_at.ensures) in (
-      turn l.invariant.0 e.loop-k-test.true z.requires.1 (ap (λ (x : GateCycled). x.acks) t) (ap (λ (x : GateCycled). x.shown) t)
-          (p.put_answer.ensures ∙ ap (with_answer l.buffer l.k) p.answer_bytes.ensures)
+    let t : c.step-t.result ≡ unreported (step_of m (inputs_in a.capture.now l.k)) =
+    c.step-t.ensures.rules l.invariant.1 ∙ ap (λ (x : Inputs). unreported (step_of m x)) (c.inputs_from-i.ensures ∙ ap inputs_from c.record_at.ensures) in (
+      turn l.invariant.0 c.loop-k-test.true c.requires.1 (ap (λ (x : GateCycled). x.acks) t) (ap (λ (x : GateCycled). x.shown) t)
+          (c.put_answer.ensures ∙ ap (with_answer l.buffer l.k) c.answer_bytes.ensures)
           (ap (λ (x : GateCycled). x.state) t)
           (c.rows_of-r.ensures ∙ ap rows_in t),
       subst Held (sym (ap (λ (x : GateCycled). x.state) t)) (held_after l.state _ _ l.invariant.1),

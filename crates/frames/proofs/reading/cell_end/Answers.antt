@@ -22,8 +22,7 @@ returns-then-sent_at-ne0 c =
 pub loop-end-preserved : goal.loop-end-preserved
 loop-end-preserved c =
     let a = c.args in
-    let h = c in
-    let on = sym (ap (λ (x : ℕ). x % 2) h.sent_at.ensures) ∙ c.if-sent_at-ne1.false in
+    let on = sym (ap (λ (x : ℕ). x % 2) c.sent_at.ensures) ∙ c.if-sent_at-ne1.false in
     shorter a.frame.now a.input a.at on c.loop-end.invariant (sym c.sent_at-in-loop-end.ensures ∙ c.if-sent_at-ne0.false)
 
 pub returns : goal.returns

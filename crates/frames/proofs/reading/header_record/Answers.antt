@@ -11,17 +11,15 @@ loop-k-init c = refl
 
 pub returns-then-routes : goal.returns-then-routes
 returns-then-routes c =
-    let i = c in
     let frame = c.args.frame.now in
     let l = c.loop-k in
-    l.invariant ∙ found (λ j. (inputs_in frame j).bytes) (records frame) l.k c.loop-k-test.true (ap (λ (x : Inputs). some_active x.bytes) (sym (i.inputs_from-i.ensures ∙ ap inputs_from i.record_at.ensures)) ∙ sym c.routes.ensures ∙ c.if-routes.true)
+    l.invariant ∙ found (λ j. (inputs_in frame j).bytes) (records frame) l.k c.loop-k-test.true (ap (λ (x : Inputs). some_active x.bytes) (sym (c.inputs_from-i.ensures ∙ ap inputs_from c.record_at.ensures)) ∙ sym c.routes.ensures ∙ c.if-routes.true)
 
 pub loop-k-preserved : goal.loop-k-preserved
 loop-k-preserved c =
-    let i = c in
     let frame = c.args.frame.now in
     let l = c.loop-k in
-    l.invariant ∙ passed (λ j. (inputs_in frame j).bytes) (records frame) l.k c.loop-k-test.true (ap (λ (x : Inputs). some_active x.bytes) (sym (i.inputs_from-i.ensures ∙ ap inputs_from i.record_at.ensures)) ∙ sym c.routes.ensures ∙ c.if-routes.false)
+    l.invariant ∙ passed (λ j. (inputs_in frame j).bytes) (records frame) l.k c.loop-k-test.true (ap (λ (x : Inputs). some_active x.bytes) (sym (c.inputs_from-i.ensures ∙ ap inputs_from c.record_at.ensures)) ∙ sym c.routes.ensures ∙ c.if-routes.false)
 
 pub returns : goal.returns
 returns c =

@@ -6,26 +6,21 @@ use Rattle.gates.proofs.evaluator.evaluate.Goals as goal
 
 pub returns-then-number-ne0 : goal.returns-then-number-ne0
 returns-then-number-ne0 c =
-    let t = c in c.refused.ensures ∙ refused_early _ _ _ t.early_refusal-number.ensures t.if-number-ne0.true
+    c.refused.ensures ∙ refused_early _ _ _ c.early_refusal-number.ensures c.if-number-ne0.true
 
 pub first_fault-fault-requires : goal.first_fault-fault-requires
 first_fault-fault-requires c = fits _ _ _ (sym c.early_refusal-number.ensures ∙ c.if-number-ne0.false)
 
 pub returns-then-bad-ne0 : goal.returns-then-bad-ne0
 returns-then-bad-ne0 c =
-    let f = c in
-    let t = f in
     c.refused-then-bad-ne0.ensures
-    ∙ refused_word _ _ _ (sym t.early_refusal-number.ensures ∙ t.if-number-ne0.false) f.first_fault-fault.ensures c.if-bad-ne0.true
+    ∙ refused_word _ _ _ (sym c.early_refusal-number.ensures ∙ c.if-number-ne0.false) c.first_fault-fault.ensures c.if-bad-ne0.true
 
 pub run-requires : goal.run-requires
 run-requires c =
-    let t = c in
-    let ok = sym t.early_refusal-number.ensures ∙ t.if-number-ne0.false in (fits _ _ _ ok, input_below _ _ _ ok)
+    let ok = sym c.early_refusal-number.ensures ∙ c.if-number-ne0.false in (fits _ _ _ ok, input_below _ _ _ ok)
 
 pub returns : goal.returns
 returns c =
-    let f = c in
-    let t = f in
     ap done c.run.ensures
-    ∙ sym (all_passed _ _ _ (sym t.early_refusal-number.ensures ∙ t.if-number-ne0.false) f.first_fault-fault.ensures c.if-bad-ne0.false)
+    ∙ sym (all_passed _ _ _ (sym c.early_refusal-number.ensures ∙ c.if-number-ne0.false) c.first_fault-fault.ensures c.if-bad-ne0.false)

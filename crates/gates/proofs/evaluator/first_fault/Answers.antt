@@ -8,24 +8,19 @@ loop-i-init c = (search rules, fault_start _ _)
 
 pub returns-then-wrong : goal.returns-then-wrong
 returns-then-wrong c =
-    let t = c in
-    found_11 _ _ _ t.loop-i.invariant.1 t.loop-i-test.true (sym c.wrong.ensures ∙ c.if-wrong.true)
+    found_11 _ _ _ c.loop-i.invariant.1 c.loop-i-test.true (sym c.wrong.ensures ∙ c.if-wrong.true)
 
 pub returns-then-late : goal.returns-then-late
 returns-then-late c =
-    let w = c in
-    let t = w in
-    found_12 _ _ _ t.loop-i.invariant.1 t.loop-i-test.true
-    (sym w.wrong.ensures ∙ c.if-wrong.false) (sym c.late.ensures ∙ c.if-late.true)
+    found_12 _ _ _ c.loop-i.invariant.1 c.loop-i-test.true
+    (sym c.wrong.ensures ∙ c.if-wrong.false) (sym c.late.ensures ∙ c.if-late.true)
 
 pub loop-i-preserved : goal.loop-i-preserved
-loop-i-preserved c =
-    let w = c in
-    let t = w in (
-      search rules,
-      fault_again _ _ _ t.loop-i.invariant.1 t.loop-i-test.true
-          (sym w.wrong.ensures ∙ c.if-wrong.false) (sym c.late.ensures ∙ c.if-late.false),
-    )
+loop-i-preserved c = (
+  search rules,
+  fault_again _ _ _ c.loop-i.invariant.1 c.loop-i-test.true
+      (sym c.wrong.ensures ∙ c.if-wrong.false) (sym c.late.ensures ∙ c.if-late.false),
+)
 
 pub returns : goal.returns
 returns c = none_found _ _ _ c.loop-i.invariant.1 c.loop-i-test.false

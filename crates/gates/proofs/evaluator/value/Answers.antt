@@ -12,4 +12,4 @@ run-requires c =
 
 pub returns : goal.returns
 returns c =
-    let t = c in c.run.ensures ∙ sym (value_of_lem _ _ _ (sym t.early_refusal.ensures ∙ t.if-early_refusal-ne0.false))
+    c.run.ensures ∙ sym (value_of_lem _ _ _ (sym c.early_refusal.ensures ∙ c.if-early_refusal-ne0.false))

@@ -4,4 +4,4 @@ use Rattle.ways.proofs.choose.chosen.Goals as goal
 
 pub returns : goal.returns
 unfolding chosen
-returns c = let v = c in net_of choose_words 8 v.lines.ensures.0 v.value-v.ensures 10 c.net.ensures
+returns c = net_of choose_words 8 c.lines.ensures.0 c.value-v.ensures 10 c.net.ensures

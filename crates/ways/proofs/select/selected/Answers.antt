@@ -4,4 +4,4 @@ use Rattle.ways.proofs.select.selected.Goals as goal
 
 pub returns : goal.returns
 unfolding selected
-returns c = let v = c in nets_of select_words 3 v.lines.ensures.0 v.value-v.ensures 5 6 7 8 c.four_nets.ensures
+returns c = nets_of select_words 3 c.lines.ensures.0 c.value-v.ensures 5 6 7 8 c.four_nets.ensures

@@ -5,5 +5,4 @@ use Rattle.ways.proofs.turn.turned.Goals as goal
 pub returns : goal.returns
 unfolding turned
 returns c =
-    let v = c in
-    two_nets turn_words 7 v.lines.ensures.0 v.value-v.ensures (λ l h. record { low = l; high = h }) 31 30 c.net.ensures c.net-2.ensures
+    two_nets turn_words 7 c.lines.ensures.0 c.value-v.ensures (λ l h. record { low = l; high = h }) 31 30 c.net.ensures c.net-2.ensures
