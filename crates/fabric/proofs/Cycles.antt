@@ -11,7 +11,7 @@ use Rattle.routing.specs.Four.{four}
 use Rattle.states.specs.State.{shut_at, holder_of, first_row, second_row, switch_row}
 use Rattle.routing.specs.Port.{input}
 use Rattle.routing.specs.Route.{asked, winner, routes}
-use Rattle.fabric.specs.Cycle.{Machine, shown, acked, report, holder_after, waiting_after, shut_after, state_after, switch_after, rows_after, step_of}
+use Rattle.fabric.specs.Cycle.{Machine, machine, shown, acked, report, holder_after, waiting_after, shut_after, state_after, switch_after, rows_after, step_of}
 use Rattle.states.proofs.Equal.{state_of}
 
 -- rule 4, for one output: without a routing, with one and an asker, with one and none
@@ -53,15 +53,8 @@ pub step_made : (m : Machine) (i : Inputs) {r : Report} {acks : List Bool} {s : 
     → r ≡ report m → acks ≡ four (acked m.state i.acks) → s ≡ state_after m.state (second_row m.rows) i.frame
     → switched ≡ four (switch_after m.state (second_row m.rows))
     → record {
-      number = 0;
       report = r;
-      acks = acks;
-      shown = shown m;
-      state = s;
-      first = i.bytes;
-      second = first_row m.rows;
-      switched = switched;
-      heads = switch_row m.rows;
+      moved = record { acks = acks; shown = shown m; machine = machine s (i.bytes ∷ first_row m.rows ∷ switched ∷ switch_row m.rows ∷ []) };
     } ≡ step_of m i
 unfolding rows_after
 step_made m i p q t u = cc

@@ -1,23 +1,20 @@
 -- Rules 1, 2, 5, 6 and 7, and a cycle.
-use Rattle.std.specs.Prelude.{Bool, true, false, cond, not, ◌&&◌, List, [], ◌∷◌, ℕ, eqb, get_or}
+use Rattle.std.specs.Prelude.{Bool, true, false, cond, not, ◌&&◌, List, [], ◌∷◌, ℕ, eqb, get_or, Result, Ok, Err}
 use Rattle.routing.specs.declared.port.Input.{Input}
 use Rattle.states.specs.declared.state.State.{State}
 use Rattle.routing.specs.declared.route.Report.{Report}
 use Rattle.routing.specs.declared.route.Report.TheVariants.{NoRouting}
 use Rattle.fabric.specs.declared.cycle.Inputs.{Inputs}
+use Rattle.fabric.specs.declared.cycle.Moved.{Moved}
 use Rattle.fabric.specs.declared.cycle.Cycled.{Cycled}
+use Rattle.states.specs.declared.state.Refused.{Refused}
+use Rattle.states.specs.Refusal.{number_of}
+pub use Rattle.states.specs.declared.state.Machine.{Machine}
+pub use Rattle.states.specs.State.{machine}
 use Rattle.routing.specs.Four.{four, some}
 use Rattle.routing.specs.Port.{input}
 use Rattle.states.specs.State.{shut_at, holder_of, holder_at, first_row, second_row, switch_row, head_row, zero_row, state_refusal}
 use Rattle.routing.specs.Route.{asked, winner, routes, reported}
-
--- The state and the rows beside it.
-pub record Machine : Type 0 where
-  pub state : State
-  pub rows : List (List ℕ)
-
-abbrev pub machine : State → List (List ℕ) → Machine
-machine s rows = record { state = s; rows = rows }
 
 -- rule 1: the shown head bytes
 abbrev pub shown : Machine → List ℕ
@@ -69,34 +66,34 @@ rows_after s rows bytes = bytes ∷ first_row rows ∷ four (switch_after s (sec
 abbrev pub stepped : Machine → Inputs → Machine
 stepped m i = machine (state_after m.state (second_row m.rows) i.frame) (rows_after m.state m.rows i.bytes)
 
--- What a cycle answers where the state is accepted
+-- What a cycle leaves where the state is accepted: the answers, and the machine at the start of the next cycle; and with it the report
+abbrev pub moved_of : Machine → Inputs → Moved
+moved_of m i = record { acks = four (acked m.state i.acks); shown = shown m; machine = stepped m i }
+
 abbrev pub step_of : Machine → Inputs → Cycled
-step_of m i = record {
-  number = 0;
-  report = report m;
-  acks = four (acked m.state i.acks);
-  shown = shown m;
-  state = (stepped m i).state;
-  first = first_row (stepped m i).rows;
-  second = second_row (stepped m i).rows;
-  switched = switch_row (stepped m i).rows;
-  heads = head_row (stepped m i).rows;
-}
+step_of m i = record { report = report m; moved = moved_of m i }
+
+-- What document 01 says that a single cycle answers: a number, 0 where it is done, the report, the acknowledgements, the shown head bytes, the machine.
+pub record CycleAnswer : Type 0 where
+  pub number : ℕ
+  pub report : Report
+  pub acks : List Bool
+  pub shown : List ℕ
+  pub machine : Machine
+
+-- where the state is accepted
+abbrev pub done_cycle : Cycled → CycleAnswer
+done_cycle c = record { number = 0; report = c.report; acks = c.moved.acks; shown = c.moved.shown; machine = c.moved.machine }
 
 -- and where it is refused: the number, no routing, zeros for answers, the state and the rows as given
-abbrev pub refused_cycle : ℕ → Machine → Cycled
-refused_cycle n m = record {
-  number = n;
-  report = NoRouting;
-  acks = four (λ i. false);
-  shown = zero_row;
-  state = m.state;
-  first = first_row m.rows;
-  second = second_row m.rows;
-  switched = switch_row m.rows;
-  heads = head_row m.rows;
-}
+abbrev pub refused_cycle : ℕ → Machine → CycleAnswer
+refused_cycle n m = record { number = n; report = NoRouting; acks = four (λ i. false); shown = zero_row; machine = m }
 
 -- a single cycle: refusals 14, 7, 8
-abbrev pub cycle_of : Machine → Inputs → Cycled
-cycle_of m i = cond (eqb (state_refusal m.state) 0) (step_of m i) (refused_cycle (state_refusal m.state) m)
+abbrev pub cycle_of : Machine → Inputs → CycleAnswer
+cycle_of m i = cond (eqb (state_refusal m.state) 0) (done_cycle (step_of m i)) (refused_cycle (state_refusal m.state) m)
+
+-- the code's answer in document 01's words
+abbrev pub cycle_answer : Result Cycled Refused → CycleAnswer
+cycle_answer (Ok c) = done_cycle c
+cycle_answer (Err r) = refused_cycle (number_of r.why) r.machine

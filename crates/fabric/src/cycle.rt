@@ -3,10 +3,10 @@ ghost use Rattle.std.specs.Prelude.{◌≡◌, ◌&&◌};
 ghost use Rattle.routing.specs.Four.{four};
 ghost use Rattle.routing.specs.Route.{asked};
 ghost use Rattle.states.specs.State.{shut_at, holder_of};
-ghost use Rattle.fabric.specs.Cycle.{machine, acked, holder_after, waiting_after, shut_after, state_after, switch_byte, switch_after, step_of, refused_cycle, cycle_of};
+ghost use Rattle.fabric.specs.Cycle.{machine, acked, holder_after, waiting_after, shut_after, state_after, switch_byte, switch_after, step_of, cycle_of, cycle_answer};
 
 use routing::{Input, Output, Report};
-use states::State;
+use states::{Machine, Refused, State};
 
 // The inputs of a cycle: frame start, four bytes, four output acknowledgements.
 #[derive(Clone, Copy)]
@@ -16,19 +16,19 @@ pub struct Inputs {
     pub acks: [bool; 4],
 }
 
-// What a cycle answers: the refusal's number or 0, the report, the acknowledgements to the inputs, the shown head bytes; then the
-// state and the four rows at the start of the next cycle.
+// What a cycle leaves: the acknowledgements to the inputs, the shown head bytes, and the machine at the start of the next cycle.
 #[derive(Clone, Copy)]
-pub struct Cycled {
-    pub number: u8,
-    pub report: Report,
+pub struct Moved {
     pub acks: [bool; 4],
     pub shown: [u8; 4],
-    pub state: State,
-    pub first: [u8; 4],
-    pub second: [u8; 4],
-    pub switched: [u8; 4],
-    pub heads: [u8; 4],
+    pub machine: Machine,
+}
+
+// And what it reports.
+#[derive(Clone, Copy)]
+pub struct Cycled {
+    pub report: Report,
+    pub moved: Moved,
 }
 
 fn acked(s: State, acks: [bool; 4], i: Input) -> bool
@@ -167,47 +167,33 @@ fn switch_row(s: State, second: [u8; 4]) -> [u8; 4]
 pub fn step(s: State, rows: [[u8; 4]; 4], i: Inputs) -> Cycled
     ensures { result ≡ step_of (machine s rows) i }
 {
-    let headers = rows[1];
-    let state = state_after(s, headers, i.frame);
-    let holders = s.holders;
-    let acks = i.acks;
+    let [first, second, switched, heads] = rows;
     let bytes = i.bytes;
-    Cycled {
-        number: 0,
-        report: routing::reported(s.waiting, holders, headers),
-        acks: acks_to(s, acks),
-        shown: rows[3],
+    let state = state_after(s, second, i.frame);
+    let machine = Machine {
         state,
-        first: bytes,
-        second: rows[0],
-        switched: switch_row(s, headers),
-        heads: rows[2],
-    }
-}
-
-fn refused(number: u8, s: State, rows: [[u8; 4]; 4]) -> Cycled
-    ensures { result ≡ refused_cycle number (machine s rows) }
-{
+        rows: [bytes, first, switch_row(s, second), switched],
+    };
+    let moved = Moved {
+        acks: acks_to(s, i.acks),
+        shown: heads,
+        machine,
+    };
     Cycled {
-        number,
-        report: Report::NoRouting,
-        acks: [false; 4],
-        shown: [0; 4],
-        state: s,
-        first: rows[0],
-        second: rows[1],
-        switched: rows[2],
-        heads: rows[3],
+        report: routing::reported(s.waiting, s.holders, second),
+        moved,
     }
 }
 
-// A single cycle: rules 1 to 7 where the state is accepted, otherwise its refusal.
-pub fn single_cycle(s: State, rows: [[u8; 4]; 4], i: Inputs) -> Cycled
-    ensures { result ≡ cycle_of (machine s rows) i }
+// A single cycle: rules 1 to 7 where the state is accepted, otherwise its refusal with the state and the rows as given.
+pub fn single_cycle(s: State, rows: [[u8; 4]; 4], i: Inputs) -> Result<Cycled, Refused>
+    ensures { cycle_answer result ≡ cycle_of (machine s rows) i }
 {
-    let number = states::refusal(s);
-    if number != 0 {
-        return refused(number, s, rows);
+    match states::check(s) {
+        Ok(()) => Ok(step(s, rows, i)),
+        Err(why) => Err(Refused {
+            why,
+            machine: Machine { state: s, rows },
+        }),
     }
-    step(s, rows, i)
 }

@@ -6,4 +6,4 @@
 
 mod cycle;
 
-pub use cycle::{Cycled, Inputs, single_cycle, step};
+pub use cycle::{Cycled, Inputs, Moved, single_cycle, step};

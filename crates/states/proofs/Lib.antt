@@ -1,3 +1,4 @@
 pub mod Equal
 pub mod States
 pub mod Calls
+pub mod Refusals

@@ -2,6 +2,7 @@
 use Rattle.std.specs.Prelude.{Bool, true, false, cond, not, ◌&&◌, ◌||◌, List, [], ℕ, ◌<◌, eqb, ltb, get_or}
 use Rattle.routing.specs.declared.port.Input.{Input}
 use Rattle.states.specs.declared.state.State.{State}
+pub use Rattle.states.specs.declared.state.Machine.{Machine}
 use Rattle.routing.specs.Four.{four, some}
 use Rattle.routing.specs.Port.{input, holder_in}
 
@@ -34,6 +35,10 @@ switch_row rows = get_or rows 2 []
 
 abbrev pub head_row : List (List ℕ) → List ℕ
 head_row rows = get_or rows 3 []
+
+-- the state and the rows beside it
+abbrev pub machine : State → List (List ℕ) → Machine
+machine s rows = record { state = s; rows = rows }
 
 -- Reset: running, all outputs shut, all holders 0, all bytes 0.
 abbrev pub reset_state : State

@@ -4,6 +4,8 @@
 
 #![tactic(auto)]
 
+mod refusal;
 mod state;
 
-pub use state::{State, refusal, reset_rows, reset_state, rows_of};
+pub use refusal::Refusal;
+pub use state::{Machine, Refused, State, check, reset_rows, reset_state};

@@ -1,7 +1,9 @@
 // The state of the machine, reset, and the refusals of a state that is handed in.
 ghost use Rattle.std.specs.Prelude.{◌≡◌, [], ◌∷◌};
+ghost use Rattle.states.specs.Refusal.{number_in};
 ghost use Rattle.states.specs.State.{reset_state, reset_rows, holder_above, open_while_waiting, held_twice, state_refusal};
 
+use super::refusal::Refusal;
 use routing::Input;
 
 #[derive(Clone, Copy)]
@@ -9,6 +11,21 @@ pub struct State {
     pub waiting: bool,
     pub shut: [bool; 4],
     pub holders: [Input; 4],
+}
+
+// A state with the rows of bytes beside it: first latches, second latches, switch bytes, head bytes. So calls hand them back; they are handed
+// in one beside the other, as document 01 has it.
+#[derive(Clone, Copy)]
+pub struct Machine {
+    pub state: State,
+    pub rows: [[u8; 4]; 4],
+}
+
+// What a refused call hands back: why, and a state and its rows.
+#[derive(Clone, Copy)]
+pub struct Refused {
+    pub why: Refusal,
+    pub machine: Machine,
 }
 
 pub fn reset_state() -> State
@@ -26,13 +43,6 @@ pub fn reset_rows() -> [[u8; 4]; 4]
 {
     let zeros = [0u8; 4];
     [zeros, zeros, zeros, zeros]
-}
-
-// The rows as a call takes them, from the four rows that another answered.
-pub fn rows_of(first: [u8; 4], second: [u8; 4], switched: [u8; 4], heads: [u8; 4]) -> [[u8; 4]; 4]
-    ensures { result ≡ first ∷ second ∷ switched ∷ heads ∷ [] }
-{
-    [first, second, switched, heads]
 }
 
 fn holder_above(s: State) -> bool
@@ -66,18 +76,18 @@ fn held_twice(s: State) -> bool
         | (open2 & open3 & (h2 == h3))
 }
 
-// 14, 7 or 8, the first that applies; 0 where the state is accepted.
-pub fn refusal(s: State) -> u8
-    ensures { result ≡ state_refusal s }
+// 14, 7 or 8, the first that applies.
+pub fn check(s: State) -> Result<(), Refusal>
+    ensures { number_in result ≡ state_refusal s }
 {
     if holder_above(s) {
-        return 14;
+        return Err(Refusal::HolderAbove);
     }
     if open_while_waiting(s) {
-        return 7;
+        return Err(Refusal::OpenWhileWaiting);
     }
     if held_twice(s) {
-        return 8;
+        return Err(Refusal::HeldTwice);
     }
-    0
+    Ok(())
 }

@@ -1,14 +1,16 @@
-use mathlib.Core.Path.{◌∙◌}
-use Rattle.fabric.specs.Cycle.{machine, step_of, refused_cycle}
+use mathlib.Core.Path.{refl, ap, ◌∙◌}
+use Rattle.fabric.specs.Cycle.{machine, step_of, done_cycle, refused_cycle}
 use Rattle.states.proofs.Calls.{answered, refused}
+use Rattle.states.proofs.Refusals.{when_ok, when_err, never_0}
 use Rattle.fabric.proofs.cycle.single_cycle.Goals as goal
 
-pub returns-then-number-ne0 : goal.returns-then-number-ne0
-returns-then-number-ne0 c =
+pub returns-in-Ok : goal.returns-in-Ok
+returns-in-Ok c =
     let a = c.args in
-    c.refused.ensures ∙ refused c.refusal-number.ensures (step_of (machine a.s a.rows) a.i) (λ n. refused_cycle n (machine a.s a.rows)) c.if-number-ne0.true
+    ap done_cycle c.step.ensures ∙ answered (when_ok c.check.ensures c.in-Ok.is) (done_cycle (step_of (machine a.s a.rows) a.i)) _ refl
 
-pub returns : goal.returns
-returns c =
+pub returns-in-Err : goal.returns-in-Err
+returns-in-Err c =
     let a = c.args in
-    c.step.ensures ∙ answered c.refusal-number.ensures (step_of (machine a.s a.rows) a.i) _ c.if-number-ne0.false
+    let m = machine a.s a.rows in
+    refused (when_err c.check.ensures c.in-Err.is) (done_cycle (step_of m a.i)) (λ n. refused_cycle n m) (never_0 _)

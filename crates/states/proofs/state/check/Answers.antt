@@ -1,6 +1,6 @@
 use mathlib.Core.Path.{sym, ◌∙◌}
 use Rattle.states.proofs.States.{refused_14, refused_7, refused_8, accepted}
-use Rattle.states.proofs.state.refusal.Goals as goal
+use Rattle.states.proofs.state.check.Goals as goal
 
 pub returns-then-holder_above : goal.returns-then-holder_above
 returns-then-holder_above c = refused_14 _ (sym c.holder_above.ensures ∙ c.if-holder_above.true)
