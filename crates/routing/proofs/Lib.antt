@@ -5,3 +5,4 @@ pub mod Masks
 pub mod Turns
 pub mod Winners
 pub mod Decisions
+pub mod Flags

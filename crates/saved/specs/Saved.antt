@@ -1,11 +1,13 @@
 -- The saved state, 18 bytes, most significant first: a 16-bit word, high byte first, then the four rows.
-use Rattle.std.specs.Prelude.{cond, not, List, [], ◌∷◌, ◌++◌, ℕ, ◌+◌, ◌*◌, ◌/◌, ◌%◌, ◌^◌, eqb, ltb, length, drop}
+use Rattle.std.specs.Prelude.{cond, not, List, [], ◌∷◌, ◌++◌, ℕ, ◌+◌, ◌*◌, ◌/◌, ◌%◌, ◌^◌, eqb, ltb, length, drop, Result, Ok, Err}
 use Rattle.states.specs.declared.state.State.{State}
-use Rattle.saved.specs.declared.taking_up.TakenUp.{TakenUp}
+use Rattle.states.specs.declared.state.Refused.{Refused}
 use Rattle.routing.specs.Four.{four, bit, bit_at}
 use Rattle.routing.specs.Port.{input}
-use Rattle.states.specs.State.{shut_at, holder_at, first_row, second_row, switch_row, head_row, reset_state, zero_row, ◌when◌otherwise◌, ◌or_else◌, state_refusal}
-use Rattle.fabric.specs.Cycle.{Machine}
+use Rattle.states.specs.State.{shut_at, holder_at, first_row, second_row, switch_row, head_row, ◌when◌otherwise◌, ◌or_else◌, state_refusal}
+use Rattle.states.specs.Refusal.{number_of}
+use Rattle.fabric.specs.Cycle.{Machine, machine}
+use Rattle.fabric.specs.Run.{reset_machine}
 use Rattle.records.specs.Record.{byte_at}
 
 -- bit 15 waiting, 14..11 shut flags of outputs 3..0, 10..3 holders of outputs 3..0 (two bits each), 2..0 zero
@@ -55,19 +57,25 @@ unfoldable pub take_up_refusal : List ℕ → ℕ
 take_up_refusal saved =
     5 when not (eqb (length saved) 18) otherwise 6 when not (eqb (word_in saved % 8) 0) otherwise state_refusal (state_in (word_in saved))
 
+-- What document 01 says that taking up answers: a number, 0 where it is done, and the state with its rows.
+pub record TakenUp : Type 0 where
+  pub number : ℕ
+  pub machine : Machine
+
+abbrev pub machine_in : List ℕ → Machine
+machine_in saved = machine (state_in (word_in saved)) (row_in saved 2 ∷ row_in saved 6 ∷ row_in saved 10 ∷ row_in saved 14 ∷ [])
+
 abbrev pub taken_up : List ℕ → TakenUp
-taken_up saved = record {
-  number = 0;
-  state = state_in (word_in saved);
-  first = row_in saved 2;
-  second = row_in saved 6;
-  switched = row_in saved 10;
-  heads = row_in saved 14;
-}
+taken_up saved = record { number = 0; machine = machine_in saved }
 
 -- a refusal gives the reset state
 abbrev pub not_taken_up : ℕ → TakenUp
-not_taken_up n = record { number = n; state = reset_state; first = zero_row; second = zero_row; switched = zero_row; heads = zero_row }
+not_taken_up n = record { number = n; machine = reset_machine }
 
 abbrev pub take_up_of : List ℕ → TakenUp
 take_up_of saved = cond (eqb (take_up_refusal saved) 0) (taken_up saved) (not_taken_up (take_up_refusal saved))
+
+-- the code's answer in document 01's words
+abbrev pub taken_as : Result Machine Refused → TakenUp
+taken_as (Ok m) = record { number = 0; machine = m }
+taken_as (Err r) = record { number = number_of r.why; machine = r.machine }

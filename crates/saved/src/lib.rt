@@ -6,4 +6,4 @@ mod saving;
 mod taking_up;
 
 pub use saving::save;
-pub use taking_up::{TakenUp, take_up};
+pub use taking_up::take_up;

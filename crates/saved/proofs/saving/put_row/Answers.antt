@@ -1,14 +1,14 @@
-use native.Mathlib.Omega.{arith}
-use native.Mathlib.Numerals.{add-one}
-use lib.ListN.{length-set}
-use Rattle.records.proofs.Places.{add_two, add_three}
+use Rattle.std.proofs.Common.{◌≡◌, ◌+◌, ◌-◌, ◌∙◌, ap, sym, length, arith, rules}
+use borrow.Rule.Slice.PartMut.{put_mid}
+use lib.Seq.{sets}
+use Rattle.saved.proofs.Keeps.{part_put, whole_row}
 use Rattle.saved.proofs.saving.put_row.Goals as goal
 
-pub bounds-out-at-2 : goal.bounds-out-at-2
-bounds-out-at-2 c = simp length-set (omega arith)
-
-pub bounds-out-at-3 : goal.bounds-out-at-3
-bounds-out-at-3 c = simp length-set (omega arith)
-
 pub returns : goal.returns
-returns c = simp (add-one, add_two, add_three)
+returns c =
+    let a = c.args in
+    let four : length a.row ≡ 4 = search rules in
+    let room = c.requires in
+    ap (put_mid a.at (a.at + 4 - a.at) a.out.now) c.copy_from_slice.ensures.after
+    ∙ rw four at (part_put a.out.now a.row a.at (omega (arith, four, room)))
+    ∙ ap (sets a.out.now a.at) (whole_row a.row four)
