@@ -8,9 +8,13 @@ use lib.Dec.{eqb, ltb}
 use lib.ListN.{length}
 use borrow.Author.Tests.{eq-eqb, ne_eqb, eqb-true, lt-ltb, le-ltb, ltb-false}
 use Rattle.states.specs.declared.state.State.{State}
+use Rattle.states.specs.declared.refusal.Refusal.{Refusal}
+use Rattle.states.specs.declared.refusal.Refusal.TheVariants.{CaptureCut, AnswersTooShort, SpareBitSet, TooManyRecords, SavedLength, SavedZerosSet, OpenWhileWaiting, HeldTwice, SavingTooShort, HolderAbove}
+use Rattle.states.specs.Refusal.{number_of, place_of}
 use Rattle.states.specs.State.{◌when◌otherwise◌, state_refusal}
+use Rattle.states.proofs.States.{not_3}
 use Rattle.states.proofs.Calls.{by_first, by_later, both_zero}
-use Rattle.capture.specs.declared.refusal.Judged.TheVariants.{Refused, Done}
+use Rattle.capture.specs.Refusal.{Refused, Done}
 use Rattle.places.specs.Capture.{records}
 use Rattle.capture.specs.Refusal.{limit, early_refusal, first_bad, judged}
 
@@ -42,6 +46,33 @@ module _ (s : State) (capture : List ℕ) (room : ℕ) {n : ℕ} (is : n ≡ sta
 
         pub no_number : length capture ≤ room → 0 ≡ early_refusal s capture room
         no_number h = rw (eq-eqb _ _ whole, le-ltb _ _ few, le-ltb _ _ h) at afterwards
+
+-- and none of them is 3, so that none gives a place
+early_not_3 : (s : State) (capture : List ℕ) (room : ℕ) → 3 ≡ early_refusal s capture room → ⊥
+unfolding early_refusal
+early_not_3 s capture room e = go (eqb (state_refusal s) 0) e
+  where
+    rest : (a b c : Bool) → 3 ≡ (1 when not a otherwise 4 when b otherwise 2 when c otherwise 0) → ⊥
+    rest false b c e = omega arith
+    rest true true c e = omega arith
+    rest true false true e = omega arith
+    rest true false false e = omega arith
+
+    go : (b : Bool) → 3 ≡ (state_refusal s when not b otherwise later capture room) → ⊥
+    go true e = rest (eqb (length capture % 5) 0) (ltb limit (records capture)) (ltb room (length capture)) e
+    go false e = not_3 s e
+
+pub early_place : (s : State) (capture : List ℕ) (room : ℕ) (why : Refusal) → number_of why ≡ early_refusal s capture room → place_of why ≡ 0
+early_place s capture room CaptureCut e = refl
+early_place s capture room AnswersTooShort e = refl
+early_place s capture room (SpareBitSet k) e = absurd (early_not_3 s capture room e)
+early_place s capture room TooManyRecords e = refl
+early_place s capture room SavedLength e = refl
+early_place s capture room SavedZerosSet e = refl
+early_place s capture room OpenWhileWaiting e = refl
+early_place s capture room HeldTwice e = refl
+early_place s capture room SavingTooShort e = refl
+early_place s capture room HolderAbove e = refl
 
 -- the judgement
 module _ (s : State) (capture : List ℕ) (room : ℕ) {n : ℕ} (is : n ≡ early_refusal s capture room) where

@@ -1,4 +1,3 @@
 pub mod Bads
 pub mod Fates
 pub mod Loops
-pub mod Endings

@@ -7,9 +7,8 @@ use native.Mathlib.Numerals.{add-one}
 use native.Mathlib.Omega.{arith}
 use lib.ListN.{length, take, drop}
 use lib.Seq.{sets-eq, length-sets, take_at, drop-drop, drop-append-add}
-use Rattle.states.specs.declared.state.State.{State}
 use Rattle.routing.specs.Four.{four}
-use Rattle.fabric.specs.Cycle.{Machine, machine, shown, acked, stepped}
+use Rattle.fabric.specs.Cycle.{Machine, shown, acked, stepped}
 use Rattle.fabric.specs.Run.{run_of}
 use Rattle.routing.proofs.Equal.{two}
 use Rattle.records.specs.Record.{answer_bytes}
@@ -18,19 +17,19 @@ use Rattle.records.proofs.Answered.{answers_length}
 use Rattle.places.specs.Capture.{records, inputs_in, with_answer}
 use Rattle.places.proofs.Records.{answer_there}
 
--- the buffer is b at the start; after k records the machine is at s and rows, and the buffer is l
-pub record After (m : Machine) (capture b l : List ℕ) (s : State) (rows : List (List ℕ)) (k : ℕ) : Type 0 where
+-- the buffer is b at the start; after k records the machine is n, and the buffer is l
+pub record After (m : Machine) (capture b l : List ℕ) (n : Machine) (k : ℕ) : Type 0 where
   pub bound : k ≤ records capture
-  pub now_is : machine s rows ≡ run_of m (inputs_in capture) k
+  pub now_is : n ≡ run_of m (inputs_in capture) k
   pub wrote : l ≡ answers_of m (inputs_in capture) k ++ drop (5 * k) b
   pub long : length l ≡ length b
 
-pub start : (s : State) (rows : List (List ℕ)) (capture b : List ℕ) → After (machine s rows) capture b b s rows 0
+pub start : (m : Machine) (capture b : List ℕ) → After m capture b b m 0
 unfolding run_of answers_of
-start s rows capture b = record { bound = omega arith; now_is = refl; wrote = refl; long = refl }
+start m capture b = record { bound = omega arith; now_is = refl; wrote = refl; long = refl }
 
-module _ {m : Machine} {capture b l : List ℕ} {s : State} {rows : List (List ℕ)} {k : ℕ} (inv : After m capture b l s rows k) where
-  pub finished : records capture ≤ k → (machine s rows ≡ run_of m (inputs_in capture) (records capture)) × (l ≡ answers_of m (inputs_in capture) (records capture) ++ drop (5 * records capture) b)
+module _ {m : Machine} {capture b l : List ℕ} {n : Machine} {k : ℕ} (inv : After m capture b l n k) where
+  pub finished : records capture ≤ k → (n ≡ run_of m (inputs_in capture) (records capture)) × (l ≡ answers_of m (inputs_in capture) (records capture) ++ drop (5 * records capture) b)
   finished h =
       let e : k ≡ records capture = omega (arith, inv.bound) in
       (inv.now_is ∙ ap (run_of m (inputs_in capture)) e, inv.wrote ∙ ap (λ (j : ℕ). answers_of m (inputs_in capture) j ++ drop (5 * j) b) e)
@@ -55,21 +54,20 @@ module _ {m : Machine} {capture b l : List ℕ} {s : State} {rows : List (List �
         ∙ ap (λ (x : List ℕ). (x ++ v) ++ drop (5 * k + length v) l) front
         ∙ ap (λ (x : List ℕ). (so_far ++ v) ++ x) kept
 
-    -- a turn: what one cycle answers is written, and its state and rows are taken on
-    pub turn : {acks : List Bool} {heads l' : List ℕ} {s' : State} {rows' : List (List ℕ)}
-        → acks ≡ four (acked s (inputs_in capture k).acks) → heads ≡ shown (machine s rows) → l' ≡ with_answer l k (answer_bytes acks heads)
-        → s' ≡ (stepped (machine s rows) (inputs_in capture k)).state → rows' ≡ (stepped (machine s rows) (inputs_in capture k)).rows
-        → After m capture b l' s' rows' (k + 1)
+    -- a turn: what one cycle answers is written, and the machine that it leaves is taken on
+    pub turn : {acks : List Bool} {heads l' : List ℕ} {n' : Machine}
+        → acks ≡ four (acked n.state (inputs_in capture k).acks) → heads ≡ shown n → l' ≡ with_answer l k (answer_bytes acks heads)
+        → n' ≡ stepped n (inputs_in capture k) → After m capture b l' n' (k + 1)
     unfolding run_of answers_of
-    turn {l' = l'} ea eh el es er =
-        let same : l' ≡ with_answer l k (answer_of (machine s rows) (inputs_in capture k)) = el ∙ ap (with_answer l k) (two answer_bytes ea eh) in
+    turn {l' = l'} ea eh el en =
+        let same : l' ≡ with_answer l k (answer_of n (inputs_in capture k)) = el ∙ ap (with_answer l k) (two answer_bytes ea eh) in
         record {
           bound = omega arith;
-          now_is = two machine es er ∙ ap (λ (x : Machine). stepped x (inputs_in capture k)) inv.now_is ∙ ap (run_of m (inputs_in capture)) (sym (add-one k));
+          now_is = en ∙ ap (λ (x : Machine). stepped x (inputs_in capture k)) inv.now_is ∙ ap (run_of m (inputs_in capture)) (sym (add-one k));
           wrote =
               same
-              ∙ stored (answer_of (machine s rows) (inputs_in capture k)) refl
+              ∙ stored (answer_of n (inputs_in capture k)) refl
               ∙ ap (λ (x : Machine). (answers_of m (inputs_in capture) k ++ answer_of x (inputs_in capture k)) ++ drop (5 * (k + 1)) b) inv.now_is
               ∙ ap (λ (j : ℕ). answers_of m (inputs_in capture) j ++ drop (5 * (k + 1)) b) (sym (add-one k));
-          long = ap length same ∙ ap length (answer_there l k _ (omega (arith, inv.long))) ∙ length-sets l (5 * k) (answer_of (machine s rows) (inputs_in capture k)) ∙ inv.long;
+          long = ap length same ∙ ap length (answer_there l k _ (omega (arith, inv.long))) ∙ length-sets l (5 * k) (answer_of n (inputs_in capture k)) ∙ inv.long;
         }

@@ -1,11 +1,16 @@
 -- What becomes of a replay: refusals 14, 7, 8, 1, 4, 2, 3 in this order, or done.
-use Rattle.std.specs.Prelude.{Bool, cond, not, List, ℕ, zero, suc, ◌%◌, eqb, ltb, length}
+use Rattle.std.specs.Prelude.{Bool, cond, not, List, ℕ, zero, suc, ◌%◌, eqb, ltb, length, Result, Ok, Err}
 use Rattle.states.specs.declared.state.State.{State}
 use Rattle.states.specs.State.{◌when◌otherwise◌, ◌or_else◌, state_refusal}
 use Rattle.records.specs.Record.{byte_at, spare_set}
-use Rattle.capture.specs.declared.refusal.Judged.{Judged}
-use Rattle.capture.specs.declared.refusal.Judged.TheVariants.{Refused, Done}
+use Rattle.states.specs.declared.refusal.Refusal.{Refusal}
+use Rattle.states.specs.Refusal.{number_of, place_of}
 use Rattle.places.specs.Capture.{records, record_at}
+
+-- a number and an index, 0 where none is given, or done
+pub data Judged : Type 0 where
+  Refused : ℕ → ℕ → Judged
+  Done : Judged
 
 -- refusal 4's limit
 abbrev pub limit : ℕ
@@ -34,3 +39,8 @@ judged s capture room =
     cond (eqb (early_refusal s capture room) 0)
     (cond (ltb (first_bad capture 0 (records capture)) (records capture)) (Refused 3 (first_bad capture 0 (records capture))) Done)
     (Refused (early_refusal s capture room) 0)
+
+-- the code's answer in document 01's words
+abbrev pub judged_as : {A : Type 0} → Result A Refusal → Judged
+judged_as (Ok a) = Done
+judged_as (Err r) = Refused (number_of r) (place_of r)

@@ -1,14 +1,12 @@
 -- The replay of a capture: the run of its records, from any machine handed in.
-use Rattle.std.specs.Prelude.{List, ◌++◌, ℕ, ◌*◌, length, drop}
-use Rattle.states.specs.State.{first_row, second_row, switch_row, head_row}
+use Rattle.std.specs.Prelude.{List, ◌++◌, ℕ, ◌*◌, length, drop, Result, Ok, Err}
 use Rattle.fabric.specs.Cycle.{Machine}
 use Rattle.fabric.specs.Run.{run_of}
 use Rattle.records.specs.Answers.{answers_of}
-use Rattle.capture.specs.declared.refusal.Judged.{Judged}
-use Rattle.capture.specs.declared.refusal.Judged.TheVariants.{Refused, Done}
-use Rattle.capture.specs.declared.run.Replayed.{Replayed}
+use Rattle.states.specs.declared.state.Refused.{Refused as Handed}
+use Rattle.states.specs.Refusal.{number_of, place_of}
 use Rattle.places.specs.Capture.{records, inputs_in}
-use Rattle.capture.specs.Refusal.{judged}
+use Rattle.capture.specs.Refusal.{Judged, Refused, Done, judged}
 
 -- the machine after all records, and their answers
 abbrev pub end_of : Machine → List ℕ → Machine
@@ -17,17 +15,14 @@ end_of m capture = run_of m (inputs_in capture) (records capture)
 abbrev pub answers : Machine → List ℕ → List ℕ
 answers m capture = answers_of m (inputs_in capture) (records capture)
 
--- what a replay hands back: number, index, state and rows
+-- What document 01 says that a replay hands back: number, index, the state with its rows.
+pub record Replayed : Type 0 where
+  pub number : ℕ
+  pub index : ℕ
+  pub machine : Machine
+
 abbrev pub handed_back : ℕ → ℕ → Machine → Replayed
-handed_back n k m = record {
-  number = n;
-  index = k;
-  state = m.state;
-  first = first_row m.rows;
-  second = second_row m.rows;
-  switched = switch_row m.rows;
-  heads = head_row m.rows;
-}
+handed_back n k m = record { number = n; index = k; machine = m }
 
 -- a refusal hands back the state and the rows as given
 abbrev pub replayed_as : Judged → Machine → List ℕ → Replayed
@@ -44,3 +39,8 @@ written_as Done m capture buffer = answers m capture ++ drop (5 * records captur
 
 abbrev pub replay_writes : Machine → List ℕ → List ℕ → List ℕ
 replay_writes m capture buffer = written_as (judged m.state capture (length buffer)) m capture buffer
+
+-- the code's answer in document 01's words
+abbrev pub replayed : Result Machine Handed → Replayed
+replayed (Ok m) = handed_back 0 0 m
+replayed (Err r) = handed_back (number_of r.why) (place_of r.why) r.machine

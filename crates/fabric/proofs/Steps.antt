@@ -4,10 +4,10 @@ use mathlib.Core.Path.{◌≡◌, refl, sym, subst}
 use mathlib.Core.List.{List}
 use Prim.Native.Nat.{ℕ, zero, suc, ◌<◌}
 use native.Mathlib.Omega.{arith}
-use lib.Dec.{ltb}
+use lib.Dec.{ltb, lit<}
 use borrow.Author.Tests.{le-ltb}
 use Rattle.states.specs.declared.state.State.{State}
-use Rattle.states.specs.State.{shut_at, holder_of, holder_at, open_while_waiting, share_holder, held_twice, state_refusal}
+use Rattle.states.specs.State.{shut_at, holder_of, holder_at, open_while_waiting, share_holder, held_twice, state_refusal, Held}
 use Rattle.routing.specs.Port.{input}
 use Rattle.routing.specs.declared.port.Input.{Input}
 use Rattle.routing.specs.Route.{asked, remains, winner, routes}
@@ -85,3 +85,15 @@ module _ (s : State) where
   -- a state is accepted where no condition of 14, 7 and 8 holds
   pub accepted_of : ((o : ℕ) → o < 4 → holder_at s o < 4) → open_while_waiting s ≡ false → ((a b : ℕ) → a < b → b < 4 → share_holder s a b ≡ false) → state_refusal s ≡ 0
   accepted_of below shut apart = sym (accepted s (none_of (λ o. ltb 3 (holder_at s o)) (λ o h. let l = below o h in le-ltb 3 (holder_at s o) (omega arith))) shut (not_twice_of apart))
+
+-- a cycle leaves holders that are inputs' numbers
+pub held_after : (s : State) (headers : List ℕ) (frame : Bool) → Held s → Held (state_after s headers frame)
+held_after s headers frame held = record {
+  held0 = at 0 (lit< tt) held.held0;
+  held1 = at 1 (lit< tt) held.held1;
+  held2 = at 2 (lit< tt) held.held2;
+  held3 = at 3 (lit< tt) held.held3;
+}
+  where
+    at : (o : ℕ) → o < 4 → holder_at s o < 4 → holder_at (state_after s headers frame) o < 4
+    at = holder_below s headers frame

@@ -40,6 +40,17 @@ none false true c e = absurd (omega arith)
 none false false true e = absurd (omega arith)
 none false false false e = record { none_14 = refl; none_7 = refl; none_8 = refl }
 
+-- a state is not refused by 3
+pub not_3 : (s : State) → 3 ≡ state_refusal s → ⊥
+unfolding state_refusal
+not_3 s e = go (holder_above s) (open_while_waiting s) (held_twice s) e
+  where
+    go : (a b c : Bool) → ◌≡◌ {A = ℕ} 3 (cond a 14 (cond b 7 (cond c 8 0))) → ⊥
+    go true b c e = omega arith
+    go false true c e = omega arith
+    go false false true e = omega arith
+    go false false false e = omega arith
+
 -- what an accepted state has
 module _ (s : State) (ok : state_refusal s ≡ 0) where
   apart : None (holder_above s) (open_while_waiting s) (held_twice s)

@@ -1,5 +1,5 @@
 -- The refusals of calls over a machine, with document 01's numbers.
-use Rattle.std.specs.Prelude.{◌≡◌, ℕ, Option, Some, None, Result, Ok, Err}
+use Rattle.std.specs.Prelude.{◌≡◌, ℕ, Option, Some, None, Result, Ok, Err, unwrap_or}
 use Rattle.states.specs.declared.refusal.Refusal.{Refusal}
 use Rattle.states.specs.declared.refusal.Refusal.TheVariants.{CaptureCut, AnswersTooShort, SpareBitSet, TooManyRecords, SavedLength, SavedZerosSet, OpenWhileWaiting, HeldTwice, SavingTooShort, HolderAbove}
 
@@ -27,6 +27,10 @@ index_of OpenWhileWaiting = None
 index_of HeldTwice = None
 index_of SavingTooShort = None
 index_of HolderAbove = None
+
+-- the index as document 01 gives it: 0 where there is none
+abbrev pub place_of : Refusal → ℕ
+place_of r = unwrap_or (index_of r) 0
 
 -- the number of what a call says that may refuse: 0 is done
 abbrev pub number_in : {A : Type 0} → Result A Refusal → ℕ
