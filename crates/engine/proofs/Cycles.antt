@@ -1,30 +1,24 @@
 -- The gate engine's cycle is rules 1 to 7, and leaves holders that are inputs' numbers. Assumes nothing.
 use mathlib.Core.Bool.{Bool}
-use mathlib.Core.Path.{◌≡◌}
-use mathlib.Core.List.{List}
-use Prim.Native.Nat.{ℕ, ◌<◌}
-use lib.Dec.{lit<}
+use mathlib.Core.Path.{◌≡◌, ap}
+use Rattle.std.proofs.Common.{Ok}
+use mathlib.Core.List.{List, [], ◌∷◌}
+use Prim.Native.Nat.{ℕ}
 use Rattle.states.specs.declared.state.State.{State}
 use Rattle.fabric.specs.declared.cycle.Inputs.{Inputs}
-use Rattle.states.specs.State.{holder_at, Held, first_row, second_row, switch_row}
-use Rattle.fabric.specs.Cycle.{Machine, shown, state_after, rows_after, step_of}
-use Rattle.fabric.proofs.Steps.{holder_below}
+use Rattle.states.specs.State.{Held, first_row, second_row, switch_row}
+use Rattle.fabric.specs.Cycle.{Machine, machine, shown, rows_after, moved_of, step_of, done_cycle}
 use Rattle.records.specs.Record.{Bytes}
-use Rattle.engine.specs.declared.cycle.GateCycled.{GateCycled}
-use Rattle.engine.specs.Cycle.{gate_step_of, unreported}
+use Rattle.fabric.specs.declared.cycle.Moved.{Moved}
+use Rattle.engine.specs.Cycle.{gate_step_of, unreported, gate_answer, without_report}
 use Rattle.engine.proofs.Control.{next_state}
 use Rattle.engine.proofs.Choices.{acks_made, switch_made}
 
-abbrev pub parts : Machine → Inputs → List Bool → State → List ℕ → GateCycled
+abbrev pub parts : Machine → Inputs → List Bool → State → List ℕ → Moved
 parts m i acks state switched = record {
-  number = 0;
   acks = acks;
   shown = shown m;
-  state = state;
-  first = i.bytes;
-  second = first_row m.rows;
-  switched = switched;
-  heads = switch_row m.rows;
+  machine = machine state (i.bytes ∷ first_row m.rows ∷ switched ∷ switch_row m.rows ∷ []);
 }
 
 pub parts_of : (m : Machine) (i : Inputs) {a a' : List Bool} {s s' : State} {w w' : List ℕ} → a ≡ a' → s ≡ s' → w ≡ w' → parts m i a s w ≡ parts m i a' s' w'
@@ -36,14 +30,6 @@ by_the_rules m i bytes held =
     parts_of m i (acks_made m.state held i.acks) (next_state m.state (second_row m.rows) i.frame held)
     (switch_made m.state held (second_row m.rows) (λ h _. bytes h))
 
--- the next state's holders are inputs' numbers again
-pub held_after : (s : State) (headers : List ℕ) (start : Bool) → Held s → Held (state_after s headers start)
-held_after s headers start held = record {
-  held0 = at 0 (lit< tt) held.held0;
-  held1 = at 1 (lit< tt) held.held1;
-  held2 = at 2 (lit< tt) held.held2;
-  held3 = at 3 (lit< tt) held.held3;
-}
-  where
-    at : (o : ℕ) → o < 4 → holder_at s o < 4 → holder_at (state_after s headers start) o < 4
-    at = holder_below s headers start
+-- what a cycle leaves is its answer without the report
+pub answer_is : (m : Machine) (i : Inputs) {t : Moved} → t ≡ moved_of m i → gate_answer (Ok t) ≡ without_report (done_cycle (step_of m i))
+answer_is m i e = ap (λ (x : Moved). gate_answer (Ok x)) e

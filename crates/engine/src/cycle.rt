@@ -2,26 +2,13 @@
 ghost use Rattle.std.specs.Prelude.{◌≡◌};
 ghost use Rattle.routing.specs.Four.{four};
 ghost use Rattle.states.specs.State.{Held};
-ghost use Rattle.fabric.specs.Cycle.{machine, acked, switch_after, step_of, refused_cycle, cycle_of};
+ghost use Rattle.fabric.specs.Cycle.{machine, acked, switch_after, moved_of, cycle_of};
 ghost use Rattle.wiring.specs.Wiring.{gate_state, gate_acks, gate_switch};
-ghost use Rattle.engine.specs.Cycle.{gate_step_of, unreported};
+ghost use Rattle.engine.specs.Cycle.{gate_step_of, gate_answer, without_report};
 
-use fabric::Inputs;
-use states::State;
-
-// What a cycle answers: the refusal's number or 0, the acknowledgements to the inputs, the shown head bytes; then the state and the four rows
-// at the start of the next cycle.
-#[derive(Clone, Copy)]
-pub struct GateCycled {
-    pub number: u8,
-    pub acks: [bool; 4],
-    pub shown: [u8; 4],
-    pub state: State,
-    pub first: [u8; 4],
-    pub second: [u8; 4],
-    pub switched: [u8; 4],
-    pub heads: [u8; 4],
-}
+use capture::Engine;
+use fabric::{Inputs, Moved};
+use states::{Machine, Refused, State};
 
 // The control part: 4 decodings, the phase, 4 filters, 4 shut flags, 4 turns.
 fn next_state(s: State, headers: [u8; 4], start: bool) -> State
@@ -61,51 +48,47 @@ fn pass_on(s: State, acks: [bool; 4], second: [u8; 4]) -> Passed
 }
 
 // Rules 1 to 7. Bytes that only move are moved: input bytes, first latches, second latches, switch bytes, head bytes.
-pub(crate) fn step(s: State, rows: [[u8; 4]; 4], i: Inputs) -> GateCycled
+fn step(s: State, rows: [[u8; 4]; 4], i: Inputs) -> Moved
     ensures words { result ≡ gate_step_of (machine s rows) i }
-    ensures rules { Held s → result ≡ unreported (step_of (machine s rows) i) }
+    ensures rules { Held s → result ≡ moved_of (machine s rows) i }
 {
-    let second = rows[1];
-    let acks = i.acks;
+    let [first, second, switched, heads] = rows;
     let bytes = i.bytes;
     let state = next_state(s, second, i.frame);
-    let data = pass_on(s, acks, second);
-    let to = data.acks;
-    let switched = data.switched;
-    GateCycled {
-        number: 0,
-        acks: to,
-        shown: rows[3],
+    let Passed {
+        acks,
+        switched: chosen,
+    } = pass_on(s, i.acks, second);
+    let machine = Machine {
         state,
-        first: bytes,
-        second: rows[0],
-        switched,
-        heads: rows[2],
+        rows: [bytes, first, chosen, switched],
+    };
+    Moved {
+        acks,
+        shown: heads,
+        machine,
     }
 }
 
-fn refused(number: u8, s: State, rows: [[u8; 4]; 4]) -> GateCycled
-    ensures { result ≡ unreported (refused_cycle number (machine s rows)) }
-{
-    GateCycled {
-        number,
-        acks: [false; 4],
-        shown: [0; 4],
-        state: s,
-        first: rows[0],
-        second: rows[1],
-        switched: rows[2],
-        heads: rows[3],
+// The gates as an engine.
+#[derive(Clone, Copy)]
+pub struct Gates;
+
+impl Engine for Gates {
+    fn step(&self, s: State, rows: [[u8; 4]; 4], i: Inputs) -> Moved {
+        step(s, rows, i)
     }
 }
 
-// A single cycle: the gates where the state is accepted, otherwise its refusal.
-pub fn single_cycle(s: State, rows: [[u8; 4]; 4], i: Inputs) -> GateCycled
-    ensures { result ≡ unreported (cycle_of (machine s rows) i) }
+// A single cycle: the gates where the state is accepted, otherwise its refusal with the state and the rows as given.
+pub fn single_cycle(s: State, rows: [[u8; 4]; 4], i: Inputs) -> Result<Moved, Refused>
+    ensures { gate_answer result ≡ without_report (cycle_of (machine s rows) i) }
 {
-    let number = states::refusal(s);
-    if number != 0 {
-        return refused(number, s, rows);
+    match states::check(s) {
+        Ok(()) => Ok(step(s, rows, i)),
+        Err(why) => Err(Refused {
+            why,
+            machine: Machine { state: s, rows },
+        }),
     }
-    step(s, rows, i)
 }

@@ -5,7 +5,5 @@
 #![tactic(auto)]
 
 mod cycle;
-mod run;
 
-pub use cycle::{GateCycled, single_cycle};
-pub use run::replay;
+pub use cycle::{Gates, single_cycle};

@@ -1,36 +1,26 @@
 // A state image of 25 bytes, written and read.
 ghost use Rattle.std.specs.Prelude.{[], ◌∷◌, ◌≡◌, ◌<◌};
-ghost use Rattle.routing.specs.Four.{bit};
-ghost use Rattle.fabric.specs.Cycle.{machine};
 ghost use Rattle.records.specs.Record.{byte_at};
 ghost use Rattle.image.specs.Image.{image_of, row_from, rows_from, set, state_from};
 
 use routing::Input;
-use states::State;
+use states::{Machine, State};
 
-fn flag(b: bool) -> u8
-    ensures { result ≡ bit b }
+pub fn image_of(m: Machine) -> [u8; 25]
+    ensures { result ≡ image_of m }
 {
-    if b { 1 } else { 0 }
-}
-
-pub fn image_of(
-    s: State,
-    first: [u8; 4],
-    second: [u8; 4],
-    switched: [u8; 4],
-    heads: [u8; 4],
-) -> [u8; 25]
-    ensures { result ≡ image_of (machine s (first ∷ second ∷ switched ∷ heads ∷ [])) }
-{
-    let shut = s.shut;
-    let holders = s.holders;
+    let State {
+        waiting,
+        shut,
+        holders,
+    } = m.state;
+    let [first, second, switched, heads] = m.rows;
     [
-        flag(s.waiting),
-        flag(shut[0]),
-        flag(shut[1]),
-        flag(shut[2]),
-        flag(shut[3]),
+        u8::from(waiting),
+        u8::from(shut[0]),
+        u8::from(shut[1]),
+        u8::from(shut[2]),
+        u8::from(shut[3]),
         holders[0].0,
         holders[1].0,
         holders[2].0,
@@ -58,7 +48,7 @@ pub fn image_of(
 pub fn byte_at(bytes: &[u8], k: usize) -> u8
     ensures { result ≡ byte_at bytes.now k }
 {
-    if k < bytes.len() { bytes[k] } else { 0 }
+    bytes.get(k).copied().unwrap_or(0)
 }
 
 fn set_at(bytes: &[u8], k: usize) -> bool

@@ -1,18 +1,21 @@
-use mathlib.Core.Path.{sym, ap, ◌∙◌}
-use Rattle.fabric.specs.Cycle.{machine, step_of, refused_cycle}
+use mathlib.Core.Path.{refl, sym, ap, ◌∙◌}
+use Rattle.fabric.specs.Cycle.{machine, step_of, done_cycle, refused_cycle}
 use Rattle.states.proofs.States.{held}
 use Rattle.states.proofs.Calls.{answered, refused}
-use Rattle.engine.specs.Cycle.{unreported}
+use Rattle.states.proofs.Refusals.{when_ok, when_err, never_0}
+use Rattle.engine.specs.Cycle.{without_report}
+use Rattle.engine.proofs.Cycles.{answer_is}
 use Rattle.engine.proofs.cycle.single_cycle.Goals as goal
 
-pub returns-then-number-ne0 : goal.returns-then-number-ne0
-returns-then-number-ne0 c =
+pub returns-in-Ok : goal.returns-in-Ok
+returns-in-Ok c =
     let a = c.args in
     let m = machine a.s a.rows in
-    c.refused.ensures ∙ ap unreported (refused c.refusal-number.ensures (step_of m a.i) (λ n. refused_cycle n m) c.if-number-ne0.true)
+    let ok = when_ok c.check.ensures c.in-Ok.is in
+    answer_is m a.i (c.step.ensures.rules (held a.s (sym ok))) ∙ ap without_report (answered ok (done_cycle (step_of m a.i)) _ refl)
 
-pub returns : goal.returns
-returns c =
+pub returns-in-Err : goal.returns-in-Err
+returns-in-Err c =
     let a = c.args in
-    c.step.ensures.rules (held a.s (sym c.refusal-number.ensures ∙ c.if-number-ne0.false))
-    ∙ ap unreported (answered c.refusal-number.ensures (step_of (machine a.s a.rows) a.i) _ c.if-number-ne0.false)
+    let m = machine a.s a.rows in
+    ap without_report (refused (when_err c.check.ensures c.in-Err.is) (done_cycle (step_of m a.i)) (λ n. refused_cycle n m) (never_0 _))
