@@ -17,15 +17,13 @@ use Rattle.states.specs.State.{state_refusal}
 use Rattle.states.proofs.Calls.{answered}
 use Rattle.states.proofs.States.{held_at}
 use Rattle.fabric.specs.declared.cycle.Inputs.{Inputs}
-use Rattle.fabric.specs.declared.cycle.Cycled.{Cycled}
-use Rattle.fabric.specs.Cycle.{Machine, shown, acked, step_of, cycle_of}
+use Rattle.fabric.specs.Cycle.{Machine, shown, acked, step_of, CycleAnswer, done_cycle, cycle_of}
 use Rattle.fabric.specs.Run.{reset_machine, run_of}
 use Rattle.records.specs.Record.{byte_at, flag_at, inputs_from}
 use Rattle.records.specs.Answers.{answer_of, answers_of}
 use Rattle.records.proofs.Answered.{answers_length}
-use Rattle.capture.specs.declared.refusal.Judged.TheVariants.{Done}
 use Rattle.places.specs.Capture.{records, five_at, inputs_in}
-use Rattle.capture.specs.Refusal.{judged}
+use Rattle.capture.specs.Refusal.{Done, judged}
 use Rattle.capture.specs.Replay.{replay_writes}
 use Rattle.places.proofs.Records.{record_there}
 use Rattle.runs.specs.Run.{sent, holder}
@@ -113,7 +111,8 @@ records_are_cycles = record_is_cycle
 
 pub single_cycles : SingleCycles
 single_cycles m i ok =
-    let e : cycle_of m i ≡ step_of m i = sym (answered refl (step_of m i) _ ok) in (e, ap (λ (c : Cycled). state_refusal c.state) e ∙ cycle_accepted m i ok)
+    let e : cycle_of m i ≡ done_cycle (step_of m i) = sym (answered refl (done_cycle (step_of m i)) _ ok) in
+    (e, ap (λ (c : CycleAnswer). state_refusal c.machine.state) e ∙ cycle_accepted m i ok)
 
 -- what was sent four records before, if there were as many
 four_before : (m : Machine) (capture buffer : List ℕ) → judged m.state capture (length buffer) ≡ Done → (k i : ℕ) → k < records capture → i < 4

@@ -14,7 +14,7 @@ use Rattle.fabric.proofs.Runs.{run_cut, run_same}
 use Rattle.records.specs.Record.{byte_at, spare_set, inputs_from}
 use Rattle.records.specs.Answers.{answers_of}
 use Rattle.records.proofs.Answered.{answers_length, answers_cut, answers_same}
-use Rattle.capture.specs.declared.refusal.Judged.{Judged}
+use Rattle.capture.specs.Refusal.{Judged}
 use Rattle.places.specs.Capture.{records, five_at, record_at, inputs_in}
 use Rattle.capture.specs.Refusal.{bad, first_bad}
 use Rattle.capture.specs.Replay.{end_of, answers, replayed_as, written_as}

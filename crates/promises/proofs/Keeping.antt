@@ -2,7 +2,7 @@
 -- other. Assumes nothing.
 use mathlib.Core.Bool.{Bool, true, false}
 use mathlib.Core.Path.{◌≡◌, refl, sym, ap, ◌∙◌}
-use mathlib.Core.List.{List}
+use mathlib.Core.List.{List, [], ◌∷◌}
 use Prim.Native.Nat.{ℕ, ◌+◌, ◌*◌, ◌/◌, ◌%◌, ◌<◌, ◌≤◌}
 use native.Mathlib.Nat.{div-add-mod', div-div-eq-div-mul, div-eq_of_lt}
 use native.Mathlib.Omega.{arith}
@@ -13,15 +13,13 @@ use Rattle.states.specs.declared.state.State.{State}
 use Rattle.routing.specs.Four.{bit}
 use Rattle.routing.specs.Port.{input}
 use Rattle.states.specs.State.{shut_at, holder_at, Held, first_row, second_row, switch_row, head_row, state_refusal}
-use Rattle.fabric.specs.Cycle.{Machine}
+use Rattle.fabric.specs.Cycle.{Machine, machine}
 use Rattle.states.proofs.Calls.{answered}
 use Rattle.states.proofs.Equal.{state_of}
 use Rattle.routing.proofs.Equal.{row_of}
 use Rattle.routing.proofs.Masks.{bit_digit, bit_le}
 use Rattle.states.proofs.States.{held}
-use Rattle.saved.specs.declared.taking_up.TakenUp.{TakenUp}
-use Rattle.saved.specs.Saved.{word_of, saved_of, save_refusal, save_writes, word_in, state_in, take_up_refusal, taken_up, take_up_of}
-use Rattle.saved.proofs.Equal.{taken_up_lem}
+use Rattle.saved.specs.Saved.{TakenUp, word_of, saved_of, save_refusal, save_writes, word_in, state_in, take_up_refusal, taken_up, take_up_of}
 use Rattle.saved.proofs.Keeps.{save_done, written_as_lem, number_7_8, take_up_done, save_refusal_of}
 use Rattle.records.proofs.Places.{spelt}
 use Rattle.promises.specs.Kept.{FourOfEach, taken_up_as, machine_in, SavedTakenUp, TakenUpSaved}
@@ -82,6 +80,12 @@ module _ (s : State) (h : Held s) where
   unfolding word_of
   word_low = of_state.low
 
+abbrev taken : State → List ℕ → List ℕ → List ℕ → List ℕ → TakenUp
+taken s a b c d = record { number = 0; machine = machine s (a ∷ b ∷ c ∷ d ∷ []) }
+
+taken_of : {s s' : State} {a a' b b' c c' d d' : List ℕ} → s ≡ s' → a ≡ a' → b ≡ b' → c ≡ c' → d ≡ d' → taken s a b c d ≡ taken s' a' b' c' d'
+taken_of p q r t u = cc
+
 -- the bytes of a machine, taken up
 pub saved_taken : (m : Machine) → FourOfEach m → state_refusal m.state ≡ 0 → take_up_of (saved_of m) ≡ taken_up_as m
 saved_taken m f ok =
@@ -91,7 +95,7 @@ saved_taken m f ok =
     let n : take_up_refusal (saved_of m) ≡ 0 =
     sym (number_7_8 (saved_of m) refl (sym w) (word_low m.state h)) ∙ ap state_refusal (state_back m.state h f.flags f.holders) ∙ ok in
     sym (answered refl (taken_up (saved_of m)) _ n)
-    ∙ taken_up_lem refl back (spelt 0 4 (first_row m.rows) f.first) (spelt 0 4 (second_row m.rows) f.second) (spelt 0 4 (switch_row m.rows) f.switched) (spelt 0 4 (head_row m.rows) f.heads)
+    ∙ taken_of back (spelt 0 4 (first_row m.rows) f.first) (spelt 0 4 (second_row m.rows) f.second) (spelt 0 4 (switch_row m.rows) f.switched) (spelt 0 4 (head_row m.rows) f.heads)
 
 -- the first 18 bytes that saving writes
 first_18 : (m : Machine) (buffer : List ℕ) → save_refusal m.state (length buffer) ≡ 0 → take 18 (save_writes m buffer) ≡ saved_of m

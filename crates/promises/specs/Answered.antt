@@ -3,12 +3,11 @@
 use Rattle.std.specs.Prelude.{Bool, false, cond, ◌≡◌, List, ℕ, ◌+◌, ◌-◌, ◌*◌, ◌<◌, ◌≤◌, length, get_or}
 use Rattle.routing.specs.Four.{bit_at}
 use Rattle.fabric.specs.declared.cycle.Inputs.{Inputs}
-use Rattle.fabric.specs.Cycle.{Machine, step_of, cycle_of}
+use Rattle.fabric.specs.Cycle.{Machine, step_of, done_cycle, cycle_of}
 use Rattle.fabric.specs.Run.{reset_machine}
 use Rattle.records.specs.Record.{byte_at}
-use Rattle.capture.specs.declared.refusal.Judged.TheVariants.{Done}
 use Rattle.places.specs.Capture.{records, inputs_in}
-use Rattle.capture.specs.Refusal.{judged}
+use Rattle.capture.specs.Refusal.{Done, judged}
 use Rattle.capture.specs.Replay.{replay_writes}
 use Rattle.runs.specs.Run.{Run, run_from, Accepted, sent, head, ack}
 use Rattle.runs.specs.Routing.{Wins}
@@ -52,7 +51,7 @@ RecordsAreCycles =
 
 -- A single cycle of an accepted state is a cycle of a run: it answers what the rules say, and leaves the next machine, again accepted.
 abbrev pub SingleCycles : Type 0
-SingleCycles = (m : Machine) (i : Inputs) → Accepted m.state → (cycle_of m i ≡ step_of m i) × Accepted (cycle_of m i).state
+SingleCycles = (m : Machine) (i : Inputs) → Accepted m.state → (cycle_of m i ≡ done_cycle (step_of m i)) × Accepted (cycle_of m i).machine.state
 
 -- The byte of head o in answer record k, of a replay from reset: 0 if the output was shut two records before, and otherwise the byte that
 -- the holder of that record sent four records before. Records before the first count as zeros, with all outputs shut.

@@ -1,11 +1,11 @@
 -- A cycle by gates is a cycle by the rules, and so is a run, so whatever is said of runs is said of the gate engine.
-use Rattle.std.specs.Prelude.{◌≡◌, [], ◌∷◌, ℕ, suc}
+use Rattle.std.specs.Prelude.{◌≡◌, ℕ, suc}
 use Rattle.states.specs.State.{Held, first_row, second_row}
 use Rattle.fabric.specs.declared.cycle.Inputs.{Inputs}
-use Rattle.fabric.specs.Cycle.{Machine, machine, step_of}
+use Rattle.fabric.specs.Cycle.{Machine, step_of}
 use Rattle.fabric.specs.Run.{reset_machine}
 use Rattle.records.specs.Record.{Bytes}
-use Rattle.engine.specs.declared.cycle.GateCycled.{GateCycled}
+use Rattle.fabric.specs.declared.cycle.Moved.{Moved}
 use Rattle.engine.specs.Cycle.{gate_step_of, unreported}
 use Rattle.runs.specs.Run.{Run, Accepted}
 use Rattle.runs.specs.Demand.{Demand}
@@ -16,8 +16,8 @@ abbrev pub GatesAreRules : Type 0
 GatesAreRules = (m : Machine) (i : Inputs) → Bytes (second_row m.rows) → Held m.state → gate_step_of m i ≡ unreported (step_of m i)
 
 -- the machine that a cycle by gates leaves
-abbrev pub machine_left : GateCycled → Machine
-machine_left c = machine c.state (c.first ∷ c.second ∷ c.switched ∷ c.heads ∷ [])
+abbrev pub machine_left : Moved → Machine
+machine_left c = c.machine
 
 -- A run by gates: each machine is what the cycle before it leaves.
 pub record GateRun : Type 0 where

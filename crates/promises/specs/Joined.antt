@@ -3,9 +3,8 @@ use Rattle.std.specs.Prelude.{◌≡◌, List, [], ◌++◌, ℕ, ◌+◌, ◌%�
 use Rattle.fabric.specs.Cycle.{Machine}
 use Rattle.fabric.specs.Run.{run_of}
 use Rattle.records.specs.Answers.{answers_of}
-use Rattle.capture.specs.declared.refusal.Judged.TheVariants.{Refused, Done}
 use Rattle.places.specs.Capture.{records, inputs_in}
-use Rattle.capture.specs.Refusal.{limit, judged}
+use Rattle.capture.specs.Refusal.{Refused, Done, limit, judged}
 use Rattle.runs.specs.Run.{Accepted}
 use Rattle.capture.specs.Replay.{end_of, answers, handed_back, replay_of, replay_writes}
 

@@ -3,7 +3,7 @@ use Rattle.std.specs.Prelude.{Bool, false, ◌≡◌, List, [], ◌∷◌, ℕ, 
 use Rattle.fabric.specs.declared.cycle.Inputs.{Inputs}
 use Rattle.states.specs.State.{first_row, second_row, switch_row, head_row}
 use Rattle.fabric.specs.Cycle.{Machine, machine}
-use Rattle.saved.specs.declared.taking_up.TakenUp.{TakenUp}
+use Rattle.saved.specs.Saved.{TakenUp}
 use Rattle.records.specs.Record.{Bytes, inputs_from, record_of, spare_set, answer_bytes, answer_from}
 use Rattle.saved.specs.Saved.{save_refusal, save_writes, take_up_refusal, take_up_of}
 
@@ -21,15 +21,11 @@ pub record FourOfEach (m : Machine) : Type 0 where
 abbrev pub taken_up_as : Machine → TakenUp
 taken_up_as m = record {
   number = 0;
-  state = m.state;
-  first = first_row m.rows;
-  second = second_row m.rows;
-  switched = switch_row m.rows;
-  heads = head_row m.rows;
+  machine = machine m.state (first_row m.rows ∷ second_row m.rows ∷ switch_row m.rows ∷ head_row m.rows ∷ []);
 }
 
 abbrev pub machine_in : TakenUp → Machine
-machine_in t = machine t.state (t.first ∷ t.second ∷ t.switched ∷ t.heads ∷ [])
+machine_in t = t.machine
 
 -- What saving wrote is taken up as the same state and the same rows, for every state that saving does not refuse.
 abbrev pub SavedTakenUp : Type 0

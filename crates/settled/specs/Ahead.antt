@@ -1,10 +1,9 @@
 -- What is on its way to a head: a byte that is not zero and that the head will show if nothing more is sent.
-use Rattle.std.specs.Prelude.{Bool, false, not, ◌||◌, List, [], ◌∷◌, ℕ, eqb, get_or}
+use Rattle.std.specs.Prelude.{Bool, false, not, ◌||◌, List, ℕ, eqb, get_or}
 use Rattle.routing.specs.Four.{four, some}
 use Rattle.states.specs.State.{zero_row}
 use Rattle.fabric.specs.declared.cycle.Inputs.{Inputs}
-use Rattle.fabric.specs.declared.cycle.Cycled.{Cycled}
-use Rattle.fabric.specs.Cycle.{Machine, machine, shown}
+use Rattle.fabric.specs.Cycle.{Machine, shown}
 use Rattle.fabric.specs.Run.{run_of}
 
 -- a quiet cycle: no frame start, four zero bytes, no acknowledgement
@@ -28,7 +27,3 @@ on_its_way m h = some (λ k. not (eqb (later_byte m h k) 0))
 -- at place h one of four rows has a byte that is not zero
 abbrev pub some_shown : List ℕ → List ℕ → List ℕ → List ℕ → ℕ → Bool
 some_shown a b c d h = not (eqb (get_or a h 0) 0) || not (eqb (get_or b h 0) 0) || not (eqb (get_or c h 0) 0) || not (eqb (get_or d h 0) 0)
-
--- the machine at the start of the cycle that follows
-abbrev pub following : Cycled → Machine
-following t = machine t.state (t.first ∷ t.second ∷ t.switched ∷ t.heads ∷ [])

@@ -1,11 +1,11 @@
 // Four quiet cycles ahead: what is inside the fabric has been shown by then, or never will be.
 ghost use Rattle.std.specs.Prelude.{◌≡◌};
 ghost use Rattle.routing.specs.Four.{four};
-ghost use Rattle.fabric.specs.Cycle.{machine, step_of};
-ghost use Rattle.settled.specs.Ahead.{quiet_cycle, following, some_shown, on_its_way};
+ghost use Rattle.fabric.specs.Cycle.{machine, moved_of};
+ghost use Rattle.settled.specs.Ahead.{quiet_cycle, some_shown, on_its_way};
 
-use fabric::{Cycled, Inputs};
-use states::State;
+use fabric::{Inputs, Moved};
+use states::{Machine, State};
 
 fn quiet_cycle() -> Inputs
     ensures { result ≡ quiet_cycle }
@@ -17,19 +17,11 @@ fn quiet_cycle() -> Inputs
     }
 }
 
-// The quiet cycle that follows a cycle.
-fn next(t: Cycled) -> Cycled
-    ensures { result ≡ step_of (following t) quiet_cycle }
+// A quiet cycle of a machine.
+fn next(m: Machine) -> Moved
+    ensures { result ≡ moved_of m quiet_cycle }
 {
-    let first = t.first;
-    let second = t.second;
-    let switched = t.switched;
-    let heads = t.heads;
-    fabric::step(
-        t.state,
-        states::rows_of(first, second, switched, heads),
-        quiet_cycle(),
-    )
+    fabric::step(m.state, m.rows, quiet_cycle()).moved
 }
 
 // Heads at which one of four rows has a byte that is not zero.
@@ -48,13 +40,9 @@ fn some_shown(a: [u8; 4], b: [u8; 4], c: [u8; 4], d: [u8; 4]) -> [bool; 4]
 pub fn on_its_way(s: State, rows: [[u8; 4]; 4]) -> [bool; 4]
     ensures { result ≡ four (on_its_way (machine s rows)) }
 {
-    let t0 = fabric::step(s, rows, quiet_cycle());
-    let t1 = next(t0);
-    let t2 = next(t1);
-    let t3 = next(t2);
-    let a = t0.shown;
-    let b = t1.shown;
-    let c = t2.shown;
-    let d = t3.shown;
-    some_shown(a, b, c, d)
+    let t0 = next(Machine { state: s, rows });
+    let t1 = next(t0.machine);
+    let t2 = next(t1.machine);
+    let t3 = next(t2.machine);
+    some_shown(t0.shown, t1.shown, t2.shown, t3.shown)
 }

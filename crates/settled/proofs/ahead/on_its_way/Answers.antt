@@ -1,6 +1,5 @@
-use mathlib.Core.Path.{ap, ◌∙◌}
-use Rattle.fabric.specs.declared.cycle.Inputs.{Inputs}
-use Rattle.fabric.specs.Cycle.{machine, step_of}
+use mathlib.Core.Path.{◌∙◌}
+use Rattle.fabric.specs.Cycle.{machine}
 use Rattle.settled.proofs.Cycles.{cycle_first, cycle_next, seen_ahead}
 use Rattle.settled.proofs.ahead.on_its_way.Goals as goal
 
@@ -8,7 +7,7 @@ pub returns : goal.returns
 returns c =
     let a = c.args in
     let m = machine a.s a.rows in
-    let t0 = cycle_first m (c.step-t0.ensures ∙ ap (λ (i : Inputs). step_of m i) c.quiet_cycle.ensures) in
+    let t0 = cycle_first m c.next-t0.ensures in
     let t1 = cycle_next m 0 t0 c.next-t1.ensures in
     let t2 = cycle_next m 1 t1 c.next-t2.ensures in
     let t3 = cycle_next m 2 t2 c.next-t3.ensures in
