@@ -1,12 +1,13 @@
 // Rules 1, 2, 5, 6 and 7, and a single cycle.
-ghost use Rattle.std.specs.Prelude.{◌≡◌, ◌&&◌};
+ghost use Rattle.std.specs.Prelude.{◌≡◌, ◌&&◌, ◌<◌};
 ghost use Rattle.routing.specs.Four.{four};
 ghost use Rattle.routing.specs.Route.{asked};
 ghost use Rattle.states.specs.State.{shut_at, holder_of};
-ghost use Rattle.fabric.specs.Cycle.{machine, acked, holder_after, waiting_after, shut_after, state_after, switch_byte, switch_after, step_of, cycle_of, cycle_answer};
+ghost use Rattle.fabric.specs.Cycle.{machine, passes, acked, holder_after, waiting_after, shut_after, state_after, switch_byte, switch_after, step_of, cycle_of, cycle_answer};
 
 use routing::{Input, Output, Report};
 use states::{Machine, Refused, State};
+use std::array;
 
 // The inputs of a cycle: frame start, four bytes, four output acknowledgements.
 #[derive(Clone, Copy)]
@@ -31,25 +32,24 @@ pub struct Cycled {
     pub moved: Moved,
 }
 
+// Output o passes its acknowledgement on to input i.
+fn passes(s: State, acks: [bool; 4], i: Input, o: usize) -> bool
+    requires { o < 4 }
+    ensures { result ≡ passes s acks i.0 o }
+{
+    !s.shut[o] && s.holders[o].0 == i.0 && acks[o]
+}
+
 fn acked(s: State, acks: [bool; 4], i: Input) -> bool
     ensures { result ≡ acked s acks i.0 }
 {
-    let by0 = !s.shut[0] & (s.holders[0].0 == i.0) & acks[0];
-    let by1 = !s.shut[1] & (s.holders[1].0 == i.0) & acks[1];
-    let by2 = !s.shut[2] & (s.holders[2].0 == i.0) & acks[2];
-    let by3 = !s.shut[3] & (s.holders[3].0 == i.0) & acks[3];
-    by0 | by1 | by2 | by3
+    passes(s, acks, i, 0) || passes(s, acks, i, 1) || passes(s, acks, i, 2) || passes(s, acks, i, 3)
 }
 
 fn acks_to(s: State, acks: [bool; 4]) -> [bool; 4]
     ensures { result ≡ four (acked s acks) }
 {
-    [
-        acked(s, acks, Input(0)),
-        acked(s, acks, Input(1)),
-        acked(s, acks, Input(2)),
-        acked(s, acks, Input(3)),
-    ]
+    array::from_fn(|i| acked(s, acks, Input(i as u8)))
 }
 
 // Rule 4, for an output. Nobody is looked for where no routing happens.
@@ -104,27 +104,16 @@ fn opening(routing: bool, headers: [u8; 4], o: Output) -> bool
 fn shut_flags_after(s: State, headers: [u8; 4], frame_start: bool, routing: bool) -> [bool; 4]
     ensures { result ≡ four (λ o. shut_after frame_start (routing && asked headers o) (shut_at s o)) }
 {
-    let open0 = opening(routing, headers, Output(0));
-    let open1 = opening(routing, headers, Output(1));
-    let open2 = opening(routing, headers, Output(2));
-    let open3 = opening(routing, headers, Output(3));
-    [
-        shut_after(frame_start, open0, s.shut[0]),
-        shut_after(frame_start, open1, s.shut[1]),
-        shut_after(frame_start, open2, s.shut[2]),
-        shut_after(frame_start, open3, s.shut[3]),
-    ]
+    array::from_fn(|o| {
+        let open = opening(routing, headers, Output(o as u8));
+        shut_after(frame_start, open, s.shut[o])
+    })
 }
 
 fn holders_after(s: State, headers: [u8; 4], routing: bool) -> [Input; 4]
     ensures { result ≡ four (λ o. holder_after routing headers o (holder_of s o)) }
 {
-    [
-        holder_after(routing, headers, Output(0), s.holders[0]),
-        holder_after(routing, headers, Output(1), s.holders[1]),
-        holder_after(routing, headers, Output(2), s.holders[2]),
-        holder_after(routing, headers, Output(3), s.holders[3]),
-    ]
+    array::from_fn(|o| holder_after(routing, headers, Output(o as u8), s.holders[o]))
 }
 
 fn state_after(s: State, headers: [u8; 4], frame_start: bool) -> State
@@ -147,20 +136,14 @@ fn switch_byte(shut: bool, holder: Input, second: [u8; 4]) -> u8
     if shut {
         return 0;
     }
-    let h = holder.0 as usize;
-    if h < 4 { second[h] } else { 0 }
+    second.get(usize::from(holder.0)).copied().unwrap_or(0)
 }
 
 // Rule 7's next switch bytes.
 fn switch_row(s: State, second: [u8; 4]) -> [u8; 4]
     ensures { result ≡ four (switch_after s second) }
 {
-    [
-        switch_byte(s.shut[0], s.holders[0], second),
-        switch_byte(s.shut[1], s.holders[1], second),
-        switch_byte(s.shut[2], s.holders[2], second),
-        switch_byte(s.shut[3], s.holders[3], second),
-    ]
+    array::from_fn(|o| switch_byte(s.shut[o], s.holders[o], second))
 }
 
 // Rules 1 to 7, for any state and rows. The rows move on by one: input bytes, first latches, second latches, switch bytes, head bytes.

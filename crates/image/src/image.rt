@@ -5,6 +5,7 @@ ghost use Rattle.image.specs.Image.{image_of, row_from, rows_from, set, state_fr
 
 use routing::Input;
 use states::{Machine, State};
+use std::array;
 
 pub fn image_of(m: Machine) -> [u8; 25]
     ensures { result ≡ image_of m }
@@ -63,18 +64,8 @@ pub fn state_from(bytes: &[u8]) -> State
 {
     State {
         waiting: set_at(bytes, 0),
-        shut: [
-            set_at(bytes, 1),
-            set_at(bytes, 2),
-            set_at(bytes, 3),
-            set_at(bytes, 4),
-        ],
-        holders: [
-            Input(byte_at(bytes, 5)),
-            Input(byte_at(bytes, 6)),
-            Input(byte_at(bytes, 7)),
-            Input(byte_at(bytes, 8)),
-        ],
+        shut: array::from_fn(|o| set_at(bytes, 1 + o)),
+        holders: array::from_fn(|o| Input(byte_at(bytes, 5 + o))),
     }
 }
 
@@ -82,20 +73,16 @@ fn row_from(bytes: &[u8], k: usize) -> [u8; 4]
     requires { k < 32 }
     ensures { result ≡ row_from bytes.now k }
 {
-    [
-        byte_at(bytes, k),
-        byte_at(bytes, k + 1),
-        byte_at(bytes, k + 2),
-        byte_at(bytes, k + 3),
-    ]
+    array::from_fn(|i| byte_at(bytes, k + i))
 }
 
 pub fn rows_from(bytes: &[u8]) -> [[u8; 4]; 4]
     ensures { result ≡ rows_from bytes.now }
 {
-    let first = row_from(bytes, 9);
-    let second = row_from(bytes, 13);
-    let switched = row_from(bytes, 17);
-    let heads = row_from(bytes, 21);
-    [first, second, switched, heads]
+    [
+        row_from(bytes, 9),
+        row_from(bytes, 13),
+        row_from(bytes, 17),
+        row_from(bytes, 21),
+    ]
 }

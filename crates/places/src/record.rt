@@ -3,17 +3,13 @@ ghost use Rattle.std.specs.Prelude.{◌≡◌, ◌+◌, ◌<◌, length};
 ghost use Rattle.std.proofs.lemmas.List.Edits.{sets};
 ghost use Rattle.places.specs.Capture.{five_at, record_at, with_answer};
 
+use std::array;
+
 fn five_at(capture: &[u8], at: usize) -> [u8; 5]
     requires { at + 4 < length capture.now }
     ensures { result ≡ five_at capture.now at }
 {
-    [
-        capture[at],
-        capture[at + 1],
-        capture[at + 2],
-        capture[at + 3],
-        capture[at + 4],
-    ]
+    array::from_fn(|j| capture[at + j])
 }
 
 // Record k of a capture; zeros past its last whole record.
@@ -31,11 +27,7 @@ fn put_five(buffer: &mut [u8], at: usize, answer: [u8; 5])
     requires { at + 4 < length buffer.old }
     ensures { buffer.new ≡ sets buffer.old at answer }
 {
-    buffer[at] = answer[0];
-    buffer[at + 1] = answer[1];
-    buffer[at + 2] = answer[2];
-    buffer[at + 3] = answer[3];
-    buffer[at + 4] = answer[4];
+    buffer[at..at + 5].copy_from_slice(&answer);
 }
 
 // Writes the answer to record k into its place; a buffer without that place stays.

@@ -1,23 +1,27 @@
 // The packed records, 5 bytes each.
 ghost use Rattle.std.specs.Prelude.{◌≡◌};
+ghost use Rattle.routing.specs.Four.{four, bit_at};
 ghost use Rattle.records.specs.Record.{inputs_from, record_of, answer_bytes, answer_from};
 
 use fabric::Inputs;
+use std::array;
+
+// The four low bits of a byte as flags, the lowest first.
+fn low_flags(b: u8) -> [bool; 4]
+    ensures { result ≡ four (λ n. bit_at n b) }
+{
+    array::from_fn(|n| (b >> n) % 2 == 1)
+}
 
 // A cycle's inputs from a capture record.
 pub fn inputs_from(b: [u8; 5]) -> Inputs
     ensures { result ≡ inputs_from b }
 {
-    let head = b[0];
+    let [head, b0, b1, b2, b3] = b;
     Inputs {
         frame: head / 128 % 2 == 1,
-        bytes: [b[1], b[2], b[3], b[4]],
-        acks: [
-            head / 1 % 2 == 1,
-            head / 2 % 2 == 1,
-            head / 4 % 2 == 1,
-            head / 8 % 2 == 1,
-        ],
+        bytes: [b0, b1, b2, b3],
+        acks: low_flags(head),
     }
 }
 
@@ -25,12 +29,14 @@ pub fn inputs_from(b: [u8; 5]) -> Inputs
 pub fn record_of(i: Inputs) -> [u8; 5]
     ensures { result ≡ record_of i }
 {
-    let bytes = i.bytes;
-    let acks = i.acks;
-    let high = routing::mask(false, false, false, i.frame);
-    let low = routing::mask(acks[0], acks[1], acks[2], acks[3]);
-    let head = 16 * high + low;
-    [head, bytes[0], bytes[1], bytes[2], bytes[3]]
+    let [b0, b1, b2, b3] = i.bytes;
+    [
+        128 * u8::from(i.frame) + routing::mask(i.acks),
+        b0,
+        b1,
+        b2,
+        b3,
+    ]
 }
 
 // A cycle's answer: the acknowledgements to the inputs and the shown head bytes.
@@ -44,22 +50,17 @@ pub struct Answer {
 pub fn answer_bytes(acks: [bool; 4], heads: [u8; 4]) -> [u8; 5]
     ensures { result ≡ answer_bytes acks heads }
 {
-    let to = routing::mask(acks[0], acks[1], acks[2], acks[3]);
-    [to, heads[0], heads[1], heads[2], heads[3]]
+    let [h0, h1, h2, h3] = heads;
+    [routing::mask(acks), h0, h1, h2, h3]
 }
 
 // A cycle's answer from an answer record.
 pub fn answer_from(b: [u8; 5]) -> Answer
     ensures { result ≡ answer_from b }
 {
-    let to = b[0];
+    let [head, h0, h1, h2, h3] = b;
     Answer {
-        acks: [
-            to / 1 % 2 == 1,
-            to / 2 % 2 == 1,
-            to / 4 % 2 == 1,
-            to / 8 % 2 == 1,
-        ],
-        heads: [b[1], b[2], b[3], b[4]],
+        acks: low_flags(head),
+        heads: [h0, h1, h2, h3],
     }
 }

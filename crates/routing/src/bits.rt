@@ -1,10 +1,11 @@
 // Yes and no as numbers.
-ghost use Rattle.std.specs.Prelude.{◌≡◌, ◌+◌, ◌*◌, ◌≤◌, ◌<◌};
-ghost use Rattle.routing.specs.Four.{bit};
+ghost use Rattle.std.specs.Prelude.{◌≡◌, ◌<◌, false, get_or};
+ghost use Rattle.routing.specs.Four.{mask};
 
 // Four answers as a mask, the first in bit 0.
-pub fn mask(a: bool, b: bool, c: bool, d: bool) -> u8
-    ensures { (result ≡ bit a + 2 * bit b + 4 * bit c + 8 * bit d) × (result < 16) }
+pub fn mask(answers: [bool; 4]) -> u8
+    ensures { (result ≡ mask (λ n. get_or answers n false)) × (result < 16) }
 {
-    u8::from(a) + 2 * u8::from(b) + 4 * u8::from(c) + 8 * u8::from(d)
+    let [a, b, c, d] = answers.map(u8::from);
+    a + 2 * b + 4 * c + 8 * d
 }

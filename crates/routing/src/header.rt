@@ -22,28 +22,18 @@ fn asks_high(h: u8, o: Output) -> bool
 pub(crate) fn askers(headers: [u8; 4], o: Output) -> u8
     ensures { (result ≡ mask (asker headers o.0)) × (result < 16) }
 {
-    bits::mask(
-        asks(headers[0], o),
-        asks(headers[1], o),
-        asks(headers[2], o),
-        asks(headers[3], o),
-    )
+    bits::mask(headers.map(|h| asks(h, o)))
 }
 
 // Who asks for it in the high class, as a mask.
 pub(crate) fn high_askers(headers: [u8; 4], o: Output) -> u8
     ensures { (result ≡ mask (high_asker headers o.0)) × (result < 16) }
 {
-    bits::mask(
-        asks_high(headers[0], o),
-        asks_high(headers[1], o),
-        asks_high(headers[2], o),
-        asks_high(headers[3], o),
-    )
+    bits::mask(headers.map(|h| asks_high(h, o)))
 }
 
 pub(crate) fn some_active(headers: [u8; 4]) -> bool
     ensures { result ≡ some_active headers }
 {
-    (headers[0] % 2 == 1) | (headers[1] % 2 == 1) | (headers[2] % 2 == 1) | (headers[3] % 2 == 1)
+    headers.iter().any(|h| h % 2 == 1)
 }

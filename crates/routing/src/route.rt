@@ -70,7 +70,7 @@ fn decided(headers: [u8; 4], o: Output, holder: Input) -> Outcome
     }
     Outcome::Won {
         winner: winner(headers, o, holder),
-        turned_away: (u32::count_ones(all as u32) - 1) as u8,
+        turned_away: (all.count_ones() - 1) as u8,
     }
 }
 

@@ -13,7 +13,7 @@ fn turned_mask(mask: u8, next: u32) -> u32
     requires { (mask < 16) × (next ≤ 4) }
     ensures { result ≡ mask * 0x11111111 / 2 ^ next }
 {
-    (mask as u32 * 0x11111111) >> next
+    (u32::from(mask) * 0x11111111) >> next
 }
 
 // How many places the turn passes: the trailing zeros of a turned mask. Where none of the first three places is marked it is the fourth
@@ -21,7 +21,7 @@ fn turned_mask(mask: u8, next: u32) -> u32
 fn passed(turned: u32) -> u32
     ensures { (result ≡ count_trailing_zeros 32 (turned % 8 + 8)) × (result ≤ 32) }
 {
-    u32::trailing_zeros(turned % 8 + 8)
+    (turned % 8 + 8).trailing_zeros()
 }
 
 // The first of the mask's inputs in turn after the holder.
@@ -29,6 +29,6 @@ pub(crate) fn in_turn(mask: u8, holder: Input) -> Input
     requires { mask < 16 }
     ensures { result ≡ input (in_turn (λ i. bit_at i mask) holder.0) }
 {
-    let next = (holder.0 % 4) as u32 + 1;
+    let next = u32::from(holder.0 % 4) + 1;
     Input(((next + passed(turned_mask(mask, next))) % 4) as u8)
 }

@@ -5,30 +5,14 @@ use mathlib.Core.List.{List, [], ◌∷◌, ◌++◌}
 use Prim.Native.Nat.{ℕ, ◌+◌, ◌-◌, ◌/◌, ◌%◌, ◌<◌, ◌≤◌}
 use native.Mathlib.Omega.{arith}
 use lib.Dec.{eqb, ltb}
-use borrow.Rule.Slice.PartMut.{put_mid, Post-is}
 use lib.ListN.{length, take, drop}
 use lib.Seq.{sets, sets-eq}
-use Rattle.std.proofs.Common.{append_assoc}
 use borrow.Author.Tests.{eq-eqb, ne_eqb, eqb-true, le-ltb, ltb-false}
 use Rattle.states.specs.declared.state.State.{State}
 use Rattle.states.specs.State.{◌when◌otherwise◌, first_row, second_row, switch_row, head_row, state_refusal}
 use Rattle.fabric.specs.Cycle.{Machine}
 use Rattle.saved.specs.Saved.{row_bytes, saved_bytes, saved_of, save_refusal, save_writes, word_in, state_in, take_up_refusal}
 use Rattle.states.proofs.Calls.{both_zero}
-
--- bytes copied to a place
-pub part_put : (l new : List ℕ) (at : ℕ) → at + length new ≤ length l → put_mid at (at + length new - at) l new ≡ sets l at new
-part_put l new at h =
-    ap (λ (z : List ℕ). take at l ++ (new ++ z)) (Post-is at (at + length new) l (omega arith)) ∙ sym (append_assoc (take at l) new _) ∙ sym (sets-eq new l at h)
-
--- a row of four, byte by byte
-pub whole_row : (row : List ℕ) → length row ≡ 4 → row ≡ row_bytes row
-whole_row [] e = absurd (omega arith)
-whole_row (a ∷ []) e = absurd (omega arith)
-whole_row (a ∷ b ∷ []) e = absurd (omega arith)
-whole_row (a ∷ b ∷ c ∷ []) e = absurd (omega arith)
-whole_row (a ∷ b ∷ c ∷ d ∷ []) e = refl
-whole_row (a ∷ b ∷ c ∷ d ∷ f ∷ row) e = absurd (omega arith)
 
 -- the word and the four rows, put one after the other, are the saved bytes
 pub in_order : (w : ℕ) (rows : List (List ℕ)) (l : List ℕ) {a b c d e : List ℕ} → a ≡ sets l 0 (w / 256 ∷ w % 256 ∷ []) → b ≡ sets a 2 (row_bytes (first_row rows))

@@ -1,29 +1,34 @@
 // Taking a saved state up.
-ghost use Rattle.std.specs.Prelude.{◌≡◌, ◌+◌, ◌/◌, ◌%◌, ◌<◌, length};
+ghost use Rattle.std.specs.Prelude.{◌≡◌, ◌+◌, ◌/◌, ◌%◌, ◌*◌, ◌^◌, ◌<◌, length};
+ghost use Rattle.routing.specs.Four.{four, bit_at};
+ghost use Rattle.routing.specs.Port.{input};
 ghost use Rattle.states.specs.Refusal.{number_in};
 ghost use Rattle.saved.specs.Saved.{word_in, state_in, row_in, machine_in, take_up_refusal, taken_as, take_up_of};
 
 use super::saving::SAVED_LEN;
 use routing::Input;
 use states::{Machine, Refusal, Refused, State};
+use std::array;
+
+fn shut_in(w: u16) -> [bool; 4]
+    ensures { result ≡ four (λ o. bit_at (11 + o) w) }
+{
+    array::from_fn(|o| (w >> (11 + o)) % 2 == 1)
+}
+
+fn holders_in(w: u16) -> [Input; 4]
+    ensures { result ≡ four (λ o. input (w / 2 ^ (3 + 2 * o) % 4)) }
+{
+    array::from_fn(|o| Input(((w >> (3 + 2 * o)) % 4) as u8))
+}
 
 fn state_in(w: u16) -> State
     ensures { result ≡ state_in w }
 {
     State {
         waiting: w / 32768 % 2 == 1,
-        shut: [
-            w / 2048 % 2 == 1,
-            w / 4096 % 2 == 1,
-            w / 8192 % 2 == 1,
-            w / 16384 % 2 == 1,
-        ],
-        holders: [
-            Input((w / 8 % 4) as u8),
-            Input((w / 32 % 4) as u8),
-            Input((w / 128 % 4) as u8),
-            Input((w / 512 % 4) as u8),
-        ],
+        shut: shut_in(w),
+        holders: holders_in(w),
     }
 }
 
@@ -31,7 +36,7 @@ fn row_in(b: &[u8], at: usize) -> [u8; 4]
     requires { at + 3 < length b.now }
     ensures { result ≡ row_in b.now at }
 {
-    [b[at], b[at + 1], b[at + 2], b[at + 3]]
+    array::from_fn(|i| b[at + i])
 }
 
 fn word_in(b: &[u8]) -> u16

@@ -1,7 +1,7 @@
 // The state of the machine, reset, and the refusals of a state that is handed in.
-ghost use Rattle.std.specs.Prelude.{◌≡◌, [], ◌∷◌};
+ghost use Rattle.std.specs.Prelude.{◌≡◌, ◌<◌};
 ghost use Rattle.states.specs.Refusal.{number_in};
-ghost use Rattle.states.specs.State.{reset_state, reset_rows, holder_above, open_while_waiting, held_twice, state_refusal};
+ghost use Rattle.states.specs.State.{reset_state, reset_rows, holder_above, open_while_waiting, share_holder, held_twice, state_refusal};
 
 use super::refusal::Refusal;
 use routing::Input;
@@ -34,46 +34,45 @@ pub fn reset_state() -> State
     State {
         waiting: false,
         shut: [true; 4],
-        holders: [Input(0), Input(0), Input(0), Input(0)],
+        holders: [Input(0); 4],
     }
 }
 
 pub fn reset_rows() -> [[u8; 4]; 4]
     ensures { result ≡ reset_rows }
 {
-    let zeros = [0u8; 4];
-    [zeros, zeros, zeros, zeros]
+    [[0; 4]; 4]
 }
 
 fn holder_above(s: State) -> bool
     ensures { result ≡ holder_above s }
 {
-    (3 < s.holders[0].0) | (3 < s.holders[1].0) | (3 < s.holders[2].0) | (3 < s.holders[3].0)
+    s.holders.iter().any(|h| 3 < h.0)
 }
 
 fn open_while_waiting(s: State) -> bool
     ensures { result ≡ open_while_waiting s }
 {
-    s.waiting & (!s.shut[0] | !s.shut[1] | !s.shut[2] | !s.shut[3])
+    s.waiting && s.shut.iter().any(|shut| !shut)
+}
+
+// Outputs a and b are both open and have one holder.
+fn shares_holder(s: State, a: usize, b: usize) -> bool
+    requires { (a < 4) × (b < 4) }
+    ensures { result ≡ share_holder s a b }
+{
+    !s.shut[a] && !s.shut[b] && s.holders[a].0 == s.holders[b].0
 }
 
 fn held_twice(s: State) -> bool
     ensures { result ≡ held_twice s }
 {
-    let open0 = !s.shut[0];
-    let open1 = !s.shut[1];
-    let open2 = !s.shut[2];
-    let open3 = !s.shut[3];
-    let h0 = s.holders[0].0;
-    let h1 = s.holders[1].0;
-    let h2 = s.holders[2].0;
-    let h3 = s.holders[3].0;
-    (open0 & open1 & (h0 == h1))
-        | (open0 & open2 & (h0 == h2))
-        | (open0 & open3 & (h0 == h3))
-        | (open1 & open2 & (h1 == h2))
-        | (open1 & open3 & (h1 == h3))
-        | (open2 & open3 & (h2 == h3))
+    shares_holder(s, 0, 1)
+        || shares_holder(s, 0, 2)
+        || shares_holder(s, 0, 3)
+        || shares_holder(s, 1, 2)
+        || shares_holder(s, 1, 3)
+        || shares_holder(s, 2, 3)
 }
 
 // 14, 7 or 8, the first that applies.

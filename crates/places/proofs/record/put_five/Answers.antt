@@ -1,20 +1,12 @@
-use mathlib.Core.Path.{ap}
-use native.Mathlib.Numerals.{add-one}
-use native.Mathlib.Omega.{arith}
-use lib.ListN.{length-set}
-use lib.Seq.{sets}
-use Rattle.records.proofs.Places.{add_two, add_three, add_four, spelt}
+use Rattle.std.proofs.Common.{◌≡◌, ◌+◌, ◌-◌, ◌∙◌, ap, length, arith, rules}
+use borrow.Rule.Slice.PartMut.{put_mid}
+use Rattle.records.proofs.Places.{part_put}
 use Rattle.places.proofs.record.put_five.Goals as goal
-
-pub bounds-buffer-at-2 : goal.bounds-buffer-at-2
-bounds-buffer-at-2 c = simp length-set (omega arith)
-
-pub bounds-buffer-at-3 : goal.bounds-buffer-at-3
-bounds-buffer-at-3 c = simp length-set (omega arith)
-
-pub bounds-buffer-at-4 : goal.bounds-buffer-at-4
-bounds-buffer-at-4 c = simp length-set (omega arith)
 
 pub returns : goal.returns
 returns c =
-    simp (add-one, add_two, add_three, add_four) (ap (sets c.args.buffer.now c.args.at) (spelt 0 5 c.args.answer c.well_formed.1.1.0.1.0.1))
+    let a = c.args in
+    let five : length a.answer ≡ 5 = search rules in
+    let room = c.requires in
+    ap (put_mid a.at (a.at + 5 - a.at) a.buffer.now) c.copy_from_slice.ensures.after
+    ∙ rw five at (part_put a.buffer.now a.answer a.at (omega (arith, five, room)))

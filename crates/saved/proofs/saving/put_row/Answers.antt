@@ -1,7 +1,7 @@
 use Rattle.std.proofs.Common.{◌≡◌, ◌+◌, ◌-◌, ◌∙◌, ap, sym, length, arith, rules}
 use borrow.Rule.Slice.PartMut.{put_mid}
 use lib.Seq.{sets}
-use Rattle.saved.proofs.Keeps.{part_put, whole_row}
+use Rattle.records.proofs.Places.{part_put, spelt}
 use Rattle.saved.proofs.saving.put_row.Goals as goal
 
 pub returns : goal.returns
@@ -11,4 +11,4 @@ returns c =
     let room = c.requires in
     ap (put_mid a.at (a.at + 4 - a.at) a.out.now) c.copy_from_slice.ensures.after
     ∙ rw four at (part_put a.out.now a.row a.at (omega (arith, four, room)))
-    ∙ ap (sets a.out.now a.at) (whole_row a.row four)
+    ∙ ap (sets a.out.now a.at) (sym (spelt 0 4 a.row four))
