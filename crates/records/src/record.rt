@@ -58,9 +58,9 @@ pub fn answer_bytes(acks: [bool; 4], heads: [u8; 4]) -> [u8; 5]
 pub fn answer_from(b: [u8; 5]) -> Answer
     ensures { result ≡ answer_from b }
 {
-    let [head, h0, h1, h2, h3] = b;
+    let [to, h0, h1, h2, h3] = b;
     Answer {
-        acks: low_flags(head),
+        acks: low_flags(to),
         heads: [h0, h1, h2, h3],
     }
 }
