@@ -1,8 +1,6 @@
 -- N: the length of the station's text, that text and the head's; the first place where they differ, and the piece. H: the length of a buffer, a head's
 -- number in a byte and answer records; how many bytes the head has shown, the buffer after. Lengths are numbers of four bytes.
-use Rattle.std.specs.Prelude.{cond, List, ◌++◌, ℕ, ◌+◌, ltb, length, take, drop}
-use Rattle.text.specs.declared.difference.Difference.{Difference}
-use Rattle.text.specs.declared.difference.Difference.TheVariants.{Same, At}
+use Rattle.std.specs.Prelude.{cond, List, ◌++◌, Option, Some, None, ℕ, ◌+◌, ltb, length, take, drop}
 use Rattle.text.specs.Ascii.{ascii}
 use Rattle.text.specs.Differ.{first_difference}
 use Rattle.text.specs.Page.{Page, page, puts}
@@ -11,9 +9,9 @@ use Rattle.parts.specs.Parts.{word_at, marked, room_at, number_text, bytes_text,
 use Rattle.numerals.specs.Piece.{piece_of}
 use Rattle.heads.specs.Shown.{head_text}
 
-abbrev pub place_text : Difference → List ℕ
-place_text Same = ascii "same "
-place_text (At k) = number_text k
+abbrev pub place_text : Option ℕ → List ℕ
+place_text None = ascii "same "
+place_text (Some k) = number_text k
 
 abbrev pub piece_text : List ℕ → List ℕ → List ℕ
 piece_text station head = place_text (first_difference station head) ++ bytes_text (piece_of station head) ++ ascii "\n"

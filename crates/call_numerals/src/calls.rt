@@ -4,23 +4,22 @@ ghost use Rattle.text.specs.Page.{page, Wrote};
 ghost use Rattle.text.specs.Differ.{first_difference};
 ghost use Rattle.call_numerals.specs.Calls.{place_text, piece_text, piece_line, shown_text, shown_line};
 
-use numerals::Difference;
 use routing::Output;
 
 fn put_place(out: &mut [u8], station: &[u8], head: &[u8]) -> usize
     ensures { Wrote (page out.old 0) (place_text (first_difference station.now head.now)) (page out.new result) }
 {
     match numerals::first_difference(station, head) {
-        Difference::Same => text::put_text(out, 0, b"same "),
-        Difference::At(k) => parts::put_number(out, 0, k as u64),
+        None => text::put_text(out, 0, b"same "),
+        Some(k) => parts::put_number(out, 0, k as u64),
     }
 }
 
-fn put_found<'a>(out: &mut [u8], station: &'a [u8], head: &'a [u8]) -> usize
+fn put_found(out: &mut [u8], station: &[u8], head: &[u8]) -> usize
     ensures { Wrote (page out.old 0) (piece_text station.now head.now) (page out.new result) }
 {
-    let a = put_place(&mut *out, station, head);
-    let b = parts::put_bytes(&mut *out, a, numerals::piece(station, head));
+    let a = put_place(out, station, head);
+    let b = parts::put_bytes(out, a, numerals::piece(station, head));
     text::put_byte(out, b, b'\n')
 }
 
@@ -40,7 +39,7 @@ fn put_shown_into(out: &mut [u8], payload: &[u8], buffer: &mut [u8]) -> usize
     ensures { Wrote (page out.old 0) (shown_text payload.now buffer.old) (page out.new result) }
 {
     let head = Output(image::byte_at(payload, 4));
-    let n = heads::put_shown(&mut *buffer, &payload[5..], head);
+    let n = heads::put_shown(buffer, &payload[5..], head);
     parts::put_buffer(out, n as u64, buffer)
 }
 

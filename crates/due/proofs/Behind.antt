@@ -1,22 +1,17 @@
 -- Texts one behind the other. Assumes nothing.
 use mathlib.Core.Path.{◌≡◌, sym, ap}
 use mathlib.Core.List.{List}
-use Prim.Native.Nat.{ℕ, suc, ◌-◌}
+use Prim.Native.Nat.{ℕ, suc, ◌+◌, ◌-◌, ◌<◌, ◌≤◌}
 use native.Mathlib.Omega.{arith}
-use lib.ListN.{length, take, drop, length-drop}
-use lib.Seq.{take_all}
 use Rattle.due.specs.Texts.{behind_text, behind}
 
 module _ (bytes : List ℕ) where
-  -- a part that is asked to be as long as all there is goes to the end
-  pub to_the_end : (n : ℕ) → take (length bytes) (drop n bytes) ≡ drop n bytes
-  to_the_end n = take_all (length bytes) (drop n bytes) (omega (arith, length-drop n bytes))
-
-  pub none_passed : (h : ℕ) → h ≡ 0 → bytes ≡ behind bytes h
+  pub one_passed : (h k : ℕ) → k < h → behind (behind_text bytes) (h - (k + 1)) ≡ behind bytes (h - k)
   unfolding behind
-  none_passed h e = ap (behind bytes) (sym e)
+  one_passed h k some =
+      let more : h - k ≡ suc (h - (k + 1)) = omega arith in ap (behind bytes) (sym more)
 
-  pub one_passed : (h : ℕ) → (h ≡ 0 → ⊥) → behind (behind_text bytes) (h - 1) ≡ behind bytes h
+  pub all_passed : (h k : ℕ) → h ≤ k → behind bytes (h - k) ≡ bytes
   unfolding behind
-  one_passed h some =
-      let more : suc (h - 1) ≡ h = omega (arith, some) in ap (behind bytes) more
+  all_passed h k over =
+      let none : h - k ≡ 0 = omega arith in ap (behind bytes) none

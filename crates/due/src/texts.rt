@@ -7,24 +7,25 @@ use routing::Output;
 fn first_text(input: &[u8]) -> &[u8]
     ensures { result.now ≡ first_text input.now }
 {
-    text::part(input, 1, image::byte_at(input, 0) as usize)
+    text::part(input, 1, usize::from(image::byte_at(input, 0)))
 }
 
 fn behind_text(input: &[u8]) -> &[u8]
     ensures { result.now ≡ behind_text input.now }
 {
-    text::part(input, image::byte_at(input, 0) as usize + 1, input.len())
+    let length = usize::from(image::byte_at(input, 0));
+    text::part(input, length + 1, input.len())
 }
 
 // What stands behind the first h texts.
 fn behind(input: &[u8], h: u8) -> &[u8]
     ensures { result.now ≡ behind input.now h }
 {
-    if h == 0 {
-        input
-    } else {
-        behind(behind_text(input), h - 1)
+    let mut rest = input;
+    for _ in 0..h {
+        rest = behind_text(rest);
     }
+    rest
 }
 
 pub fn text_due(input: &[u8], head: Output) -> &[u8]
@@ -43,12 +44,12 @@ fn is_cut(input: &[u8], h: u8) -> bool
     ensures { result ≡ cut input.now h }
 {
     let rest = behind(input, h);
-    rest.len() <= image::byte_at(rest, 0) as usize
+    rest.len() <= usize::from(image::byte_at(rest, 0))
 }
 
 // Refusal 25: a length byte or a byte of a text is missing.
 pub fn ends_inside(input: &[u8]) -> bool
     ensures { result ≡ ends_inside input.now }
 {
-    is_cut(input, 0) | is_cut(input, 1) | is_cut(input, 2) | is_cut(input, 3)
+    (0..4).any(|h| is_cut(input, h))
 }

@@ -9,7 +9,7 @@ fn shown_at(answers: &[u8], k: usize, head: Output) -> u8
     ensures { result ≡ shown_at answers.now head.0 k }
 {
     let record = places::record_at(answers, k);
-    image::byte_at(&record, head.0 as usize + 1)
+    image::byte_at(&record, usize::from(head.0) + 1)
 }
 
 fn put_unless_zero(out: &mut [u8], place: usize, b: u8) -> usize
@@ -27,11 +27,9 @@ pub fn put_shown(out: &mut [u8], answers: &[u8], head: Output) -> usize
     ensures { Wrote (page out.old 0) (head_text answers.now head.0) (page out.new result) }
 {
     let n = answers.len() / 5;
-    let mut next: usize = 0;
-    let mut k: usize = 0;
-    while k < n {
-        next = put_unless_zero(&mut *out, next, shown_at(answers, k, head));
-        k += 1;
+    let mut next = 0;
+    for k in 0..n {
+        next = put_unless_zero(out, next, shown_at(answers, k, head));
     }
     next
 }

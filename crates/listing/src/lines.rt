@@ -7,11 +7,9 @@ fn put_columns(out: &mut [u8], place: usize, bytes: &[u8]) -> usize
     ensures { Wrote (page out.old place) (columns bytes.now) (page out.new result) }
 {
     let mut next = place;
-    let mut i: usize = 0;
-    while i < bytes.len() {
-        next = text::put_byte(&mut *out, next, b' ');
-        next = text::put_pair(&mut *out, next, bytes[i]);
-        i += 1;
+    for b in bytes {
+        next = text::put_byte(out, next, b' ');
+        next = text::put_pair(out, next, *b);
     }
     next
 }
@@ -20,8 +18,8 @@ fn put_columns(out: &mut [u8], place: usize, bytes: &[u8]) -> usize
 pub fn put_line(out: &mut [u8], place: usize, k: usize, answer: [u8; 5]) -> usize
     ensures { Wrote (page out.old place) (line k answer) (page out.new result) }
 {
-    let next = text::put_decimal(&mut *out, place, k as u64);
-    let last = put_columns(&mut *out, next, &answer);
+    let next = text::put_decimal(out, place, k as u64);
+    let last = put_columns(out, next, &answer);
     text::put_byte(out, last, b'\n')
 }
 
@@ -30,10 +28,8 @@ fn put_lines(out: &mut [u8], place: usize, answers: &[u8]) -> usize
 {
     let n = answers.len() / 5;
     let mut next = place;
-    let mut k: usize = 0;
-    while k < n {
-        next = put_line(&mut *out, next, k, places::record_at(answers, k));
-        k += 1;
+    for k in 0..n {
+        next = put_line(out, next, k, places::record_at(answers, k));
     }
     next
 }
@@ -48,6 +44,6 @@ pub fn put_heading(out: &mut [u8], place: usize) -> usize
 pub fn put_listing(out: &mut [u8], place: usize, answers: &[u8]) -> usize
     ensures { Wrote (page out.old place) (listing answers.now) (page out.new result) }
 {
-    let next = put_heading(&mut *out, place);
+    let next = put_heading(out, place);
     put_lines(out, next, answers)
 }

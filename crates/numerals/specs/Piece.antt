@@ -1,7 +1,5 @@
 -- The piece around the first place where the station's text and the head's differ: a part of one of the two.
-use Rattle.std.specs.Prelude.{cond, List, [], ℕ, suc, ◌-◌, ltb, length, get_or, take, drop}
-use Rattle.text.specs.declared.difference.Difference.{Difference}
-use Rattle.text.specs.declared.difference.Difference.TheVariants.{Same, At}
+use Rattle.std.specs.Prelude.{cond, List, [], Option, Some, None, ℕ, suc, ◌-◌, ltb, length, get_or, take, drop}
 use Rattle.text.specs.Differ.{first_difference}
 use Rattle.numerals.specs.Numeral.{numeral, run_begins, run_ends}
 
@@ -23,9 +21,9 @@ unfoldable pub around : List ℕ → ℕ → List ℕ
 around text k = part text (begins text k) (ends text k)
 
 -- equal texts have no piece
-abbrev pub piece_at : Difference → List ℕ → List ℕ → List ℕ
-piece_at Same station head = []
-piece_at (At k) station head = around (holding station head k) k
+abbrev pub piece_at : Option ℕ → List ℕ → List ℕ → List ℕ
+piece_at None station head = []
+piece_at (Some k) station head = around (holding station head k) k
 
 abbrev pub piece_of : List ℕ → List ℕ → List ℕ
 piece_of station head = piece_at (first_difference station head) station head

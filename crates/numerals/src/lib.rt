@@ -10,4 +10,4 @@ mod part;
 pub use line::put_line;
 pub use numeral::is_numeral;
 pub use part::piece;
-pub use text::{Difference, first_difference};
+pub use text::first_difference;

@@ -2,10 +2,11 @@
 ghost use Rattle.std.specs.Prelude.{◌≡◌, ◌≤◌, length};
 ghost use Rattle.numerals.specs.Numeral.{numeral, run_begins, run_ends};
 
+#[tactic(auto, unfolding(crate::specs::Numeral::numeral))]
 pub fn is_numeral(b: u8) -> bool
     ensures { result ≡ numeral b }
 {
-    ((b'0' <= b) & (b <= b'9')) | (b == b'.') | (b == b',')
+    matches!(b, b'0'..=b'9' | b'.' | b',')
 }
 
 // Where the numeral bytes before place k begin.
@@ -13,15 +14,11 @@ pub(crate) fn run_begins(text: &[u8], k: usize) -> usize
     requires { k ≤ length text.now }
     ensures { (result ≡ run_begins text.now k) × (result ≤ k) }
 {
-    let mut at = k;
-    while at > 0 {
-        if is_numeral(text[at - 1]) {
-            at -= 1;
-        } else {
-            return at;
-        }
-    }
-    at
+    k - text[..k]
+        .iter()
+        .rev()
+        .take_while(|b| is_numeral(**b))
+        .count()
 }
 
 // The place behind the numeral bytes from place k on.
@@ -29,13 +26,5 @@ pub(crate) fn run_ends(text: &[u8], k: usize) -> usize
     requires { k ≤ length text.now }
     ensures { (result ≡ run_ends text.now k) × (k ≤ result) × (result ≤ length text.now) }
 {
-    let mut at = k;
-    while at < text.len() {
-        if is_numeral(text[at]) {
-            at += 1;
-        } else {
-            return at;
-        }
-    }
-    at
+    k + text[k..].iter().take_while(|b| is_numeral(**b)).count()
 }

@@ -3,8 +3,8 @@ ghost use Rattle.std.specs.Prelude.{◌≡◌, ◌<◌, length};
 ghost use Rattle.numerals.specs.Piece.{holding, around, piece_of};
 
 use super::numeral;
-use text::Difference;
 
+#[tactic(auto, unfolding(crate::specs::Piece::around))]
 fn around(text: &[u8], k: usize) -> &[u8]
     requires { k < length text.now }
     ensures { result.now ≡ around text.now k }
@@ -34,7 +34,7 @@ pub fn piece<'a>(station: &'a [u8], head: &'a [u8]) -> &'a [u8]
     ensures { result.now ≡ piece_of station.now head.now }
 {
     match text::first_difference(station, head) {
-        Difference::Same => &station[..0],
-        Difference::At(k) => piece_at(station, head, k),
+        None => &station[..0],
+        Some(k) => piece_at(station, head, k),
     }
 }

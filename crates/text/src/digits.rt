@@ -9,7 +9,7 @@ fn digit(d: u8) -> u8
     requires { d < 16 }
     ensures { result ≡ digit_of d }
 {
-    if d < 10 { 48 + d } else { 55 + d }
+    if d < 10 { b'0' + d } else { b'A' + (d - 10) }
 }
 
 pub fn put_decimal(out: &mut [u8], place: usize, n: u64) -> usize
@@ -18,7 +18,7 @@ pub fn put_decimal(out: &mut [u8], place: usize, n: u64) -> usize
     if n < 10 {
         page::put_byte(out, place, digit(n as u8))
     } else {
-        let next = put_decimal(&mut *out, place, n / 10);
+        let next = put_decimal(out, place, n / 10);
         page::put_byte(out, next, digit((n % 10) as u8))
     }
 }
@@ -27,7 +27,7 @@ pub fn put_decimal(out: &mut [u8], place: usize, n: u64) -> usize
 pub fn put_pair(out: &mut [u8], place: usize, b: u8) -> usize
     ensures { Wrote (page out.old place) (hex b) (page out.new result) }
 {
-    let next = page::put_byte(&mut *out, place, digit(b / 16));
+    let next = page::put_byte(out, place, digit(b / 16));
     page::put_byte(out, next, digit(b % 16))
 }
 
@@ -36,10 +36,8 @@ pub fn put_hex(out: &mut [u8], place: usize, bytes: &[u8]) -> usize
     ensures { Wrote (page out.old place) (hexes bytes.now) (page out.new result) }
 {
     let mut next = place;
-    let mut i: usize = 0;
-    while i < bytes.len() {
-        next = put_pair(&mut *out, next, bytes[i]);
-        i += 1;
+    for b in bytes {
+        next = put_pair(out, next, *b);
     }
     next
 }

@@ -10,6 +10,6 @@ mod digits;
 mod page;
 
 pub use bytes::part;
-pub use difference::{Difference, first_difference, shorter};
+pub use difference::first_difference;
 pub use digits::{put_decimal, put_hex, put_pair};
 pub use page::{put_byte, put_text};

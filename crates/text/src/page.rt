@@ -18,10 +18,8 @@ pub fn put_text(out: &mut [u8], place: usize, text: &[u8]) -> usize
     ensures { Wrote (page out.old place) text.now (page out.new result) }
 {
     let mut next = place;
-    let mut i: usize = 0;
-    while i < text.len() {
-        next = put_byte(&mut *out, next, text[i]);
-        i += 1;
+    for b in text {
+        next = put_byte(out, next, *b);
     }
     next
 }

@@ -1,6 +1,5 @@
 use mathlib.Core.Path.{ap, ◌∙◌}
 use borrow.Author.Tests.{lt-ltb, le-ltb}
-use Rattle.text.proofs.Lists.{part_length}
 use Rattle.text.proofs.Pages.{spelt}
 use Rattle.parts.proofs.Lent.{marks_cut}
 use Rattle.call_numerals.specs.Calls.{shown_text, shown_line}
@@ -9,9 +8,6 @@ use Rattle.call_numerals.proofs.calls.put_shown.Goals as goal
 pub returns-then-payload-lt5 : goal.returns-then-payload-lt5
 unfolding shown_line
 returns-then-payload-lt5 c = spelt c.put_text.ensures rw (lt-ltb _ _ c.if-payload-lt5.true)
-
-pub slice_bounds-put_shown_into-end : goal.slice_bounds-put_shown_into-end
-slice_bounds-put_shown_into-end c = part_length 165 _ 65536 c.marks-space.ensures c.room_at-room.ensures.1
 
 pub returns : goal.returns
 unfolding shown_line

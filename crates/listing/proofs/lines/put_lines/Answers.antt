@@ -1,19 +1,13 @@
-use mathlib.Core.Path.{refl, ap, ◌∙◌}
-use Rattle.text.proofs.Pages.{spelt, begun, went_on, ended}
+use mathlib.Core.Path.{ap, ◌∙◌}
+use Rattle.text.proofs.Pages.{spelt, went_on, ended}
 use Rattle.listing.specs.Listing.{line}
-use Rattle.listing.proofs.Turns.{all_lines, next_line, no_line}
+use Rattle.listing.proofs.Turns.{next_line, no_line}
 use Rattle.listing.proofs.lines.put_lines.Goals as goal
-
-pub loop-k-init : goal.loop-k-init
-loop-k-init c = (begun (all_lines _ _), refl)
 
 pub loop-k-preserved : goal.loop-k-preserved
 loop-k-preserved c =
     let l = c.loop-k in
     (went_on l.invariant.0 (next_line _ _ _ c.loop-k-test.true) (spelt c.put_line-next.ensures (ap (line l.k) c.record_at.ensures)), c.put_line-next.auto.out ∙ l.invariant.1)
-
-pub shape_of-out : goal.shape_of-out
-shape_of-out c = c.loop-k.invariant.1
 
 pub returns : goal.returns
 returns c = ended c.loop-k.invariant.0 (no_line _ _ _ c.loop-k-test.false)

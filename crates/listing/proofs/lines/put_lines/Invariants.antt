@@ -8,6 +8,3 @@ use Rattle.listing.proofs.lines.put_lines.Given as goal
 
 abbrev pub invariant-loop-k : goal.invariant-loop-k
 invariant-loop-k l = Ahead (page l.initial.out l.place) (lines_from l.answers 0 l.n) (page l.out l.next) (lines_from l.answers l.k (l.n - l.k)) × (length l.out ≡ length l.initial.out)
-
-abbrev pub decreases-loop-k : goal.decreases-loop-k
-decreases-loop-k l = l.n - l.k
