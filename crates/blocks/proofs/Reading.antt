@@ -1,28 +1,25 @@
--- What a block's function reads off an evaluation is a net of its table over its block inputs. Assumes nothing.
+-- What a block's function reads off the nets of its table. Assumes nothing.
 use mathlib.Core.Bool.{Bool}
 use mathlib.Core.Path.{◌≡◌, ap, ◌∙◌}
 use mathlib.Core.List.{List}
 use Prim.Native.Nat.{ℕ}
-use Rattle.routing.specs.Four.{bit_at}
+use lib.ListN.{get_or}
+use Rattle.routing.specs.Four.{four, bit_at}
 use Rattle.routing.proofs.Equal.{two}
-use Rattle.gates.specs.Evaluation.{value_of}
-use Rattle.blocks.specs.Lines.{four_nets}
 
-module _ (words : List ℕ) (inputs : ℕ) {x y v : ℕ} (fed : x ≡ y) (made : v ≡ value_of words inputs x) where
-  value_is : v ≡ value_of words inputs y
-  value_is = made ∙ ap (value_of words inputs) fed
+abbrev nets_at : List ℕ → ℕ → List Bool
+nets_at places v = four (λ k. bit_at (get_or places k 0) v)
 
-  pub net_of : (n : ℕ) {b : Bool} → b ≡ bit_at n v → b ≡ bit_at n (value_of words inputs y)
-  net_of n read = read ∙ ap (bit_at n) value_is
+module _ {v y : ℕ} (made : v ≡ y) where
+  pub net_of : (n : ℕ) {b : Bool} → b ≡ bit_at n v → b ≡ bit_at n y
+  net_of n read = read ∙ ap (bit_at n) made
 
-  pub two_nets : {A : Type 0} (f : Bool → Bool → A) (i j : ℕ) {a b : Bool} → a ≡ bit_at i v → b ≡ bit_at j v
-      → f a b ≡ f (bit_at i (value_of words inputs y)) (bit_at j (value_of words inputs y))
+  pub two_nets : {A : Type 0} (f : Bool → Bool → A) (i j : ℕ) {a b : Bool} → a ≡ bit_at i v → b ≡ bit_at j v → f a b ≡ f (bit_at i y) (bit_at j y)
   two_nets f i j p q = two f (net_of i p) (net_of j q)
 
-  pub nets_of : (i j k l : ℕ) {row : List Bool} → row ≡ four_nets v i j k l → row ≡ four_nets (value_of words inputs y) i j k l
-  nets_of i j k l read = read ∙ ap (λ (z : ℕ). four_nets z i j k l) value_is
+  pub nets_of : (places : List ℕ) {row : List Bool} → row ≡ nets_at places v → row ≡ nets_at places y
+  nets_of places read = read ∙ ap (nets_at places) made
 
-  pub eight_nets : {A : Type 0} (f : List Bool → List Bool → A) {p q : List Bool} (i j k l i' j' k' l' : ℕ)
-      → p ≡ four_nets v i j k l → q ≡ four_nets v i' j' k' l'
-      → f p q ≡ f (four_nets (value_of words inputs y) i j k l) (four_nets (value_of words inputs y) i' j' k' l')
-  eight_nets f i j k l i' j' k' l' p q = two f (nets_of i j k l p) (nets_of i' j' k' l' q)
+  pub eight_nets : {A : Type 0} (f : List Bool → List Bool → A) {p q : List Bool} (a b : List ℕ) → p ≡ nets_at a v → q ≡ nets_at b v
+      → f p q ≡ f (nets_at a y) (nets_at b y)
+  eight_nets f a b p q = two f (nets_of a p) (nets_of b q)

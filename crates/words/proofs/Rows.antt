@@ -34,13 +34,13 @@ module _ {F B : Type 0} (g : Mut F (ℕ × Unit {0}) B) (h : ℕ → B) (f : F) 
 module _ {F A B : Type 0} (g : Mut F (A × Unit {0}) B) (h : A → B) (f : F)
     (each : (x : A) (y : B) (q : F) → Called g f (x, tt) y q → (q ≡ f) × (y ≡ h x)) where
   mapped_at : (xs : List A) (ys : List B) (i n : ℕ) → MapsFrom g f xs ys i n → (j : ℕ) (e : B) → i ≤ j → j < i + n
-      → (x : A) × (get_or xs j x ≡ x) × (get_or ys j e ≡ h x)
+      → (x : A) × ((d : A) → get_or xs j d ≡ x) × (get_or ys j e ≡ h x)
   mapped_at xs ys i zero maps j e l m = absurd (omega arith)
   mapped_at xs ys i (suc n) maps j e l m =
       let here = each maps.1 maps.2 maps.0 maps.5 in
       let rest : MapsFrom g f xs ys (i + 1) n = subst (λ (q : F). MapsFrom g q xs ys (i + 1) n) here.0 maps.6 in
       ⊎_elim
-      (λ p. (maps.1, ap (λ (k : ℕ). get_or xs k maps.1) (sym p) ∙ maps.3.0, ap (λ (k : ℕ). get_or ys k e) (sym p) ∙ maps.4.1 e ∙ here.1))
+      (λ p. (maps.1, λ d. ap (λ (k : ℕ). get_or xs k d) (sym p) ∙ maps.3.1 d, ap (λ (k : ℕ). get_or ys k e) (sym p) ∙ maps.4.1 e ∙ here.1))
       (λ b. mapped_at xs ys (i + 1) n rest j e (omega arith) (omega arith))
       (eq-or-lt_of_le l)
 
@@ -50,4 +50,14 @@ module _ {F A B : Type 0} (g : Mut F (A × Unit {0}) B) (h : A → B) (f : F)
       (λ k e l.
       let below : k < n = omega (arith, maps.long) in
       let at = mapped_at xs ys 0 n maps.each k e (omega arith) (omega arith) in
-      at.2 ∙ sym (get_or-map h xs' k at.0 e (omega (arith, long)) ∙ ap h (ap (λ (l : List A). get_or l k at.0) (sym same) ∙ at.1)))
+      at.2 ∙ sym (get_or-map h xs' k at.0 e (omega (arith, long)) ∙ ap h (ap (λ (l : List A). get_or l k at.0) (sym same) ∙ at.1 at.0)))
+
+  -- the same by places, for an array of which only its type says how long it is
+  pub map_at : {xs : List A} {ys : List B} {n : ℕ} (d : A) → IsMapOf g f xs ys n → ys ≡ map (λ k. h (get_or xs k d)) (range_with_len 0 n)
+  map_at {xs = xs} {ys = ys} {n = n} d maps =
+      let given = λ (k : ℕ). h (get_or xs k d) in
+      same_lists ys (map given (range_with_len 0 n)) (maps.long ∙ sym (length-map-range_with_len given 0 n))
+      (λ k e l.
+          let below : k < n = omega (arith, maps.long) in
+          let at = mapped_at xs ys 0 n maps.each k e (omega arith) (omega arith) in
+          at.2 ∙ ap h (sym (at.1 d)) ∙ sym (get_or-map-range_with_len given 0 n k k e below (omega arith)))
