@@ -1,5 +1,5 @@
 -- A number made of its bits, one after the other, and why eight are enough for a block. Assumes nothing.
-use mathlib.Core.Bool.{Bool, true, false, ◌||◌}
+use mathlib.Core.Bool.{Bool, true, false}
 use Rattle.std.proofs.Math.Bool.{or-true}
 use mathlib.Core.Path.{◌≡◌, refl, sym, ap, subst, ◌∙◌}
 use mathlib.Core.List.{List, [], ◌∷◌}

@@ -2,13 +2,10 @@
 -- pattern of block inputs, the nets that the block's function reads. Assumes nothing.
 use mathlib.Core.Bool.{Bool, false}
 use mathlib.Core.Path.{◌≡◌, refl, sym}
-use mathlib.Core.List.{List, [], ◌∷◌}
-use Prim.Native.Nat.{ℕ, ◌^◌, ◌<◌}
-use native.Mathlib.Nat.{div-eq_of_lt, pow-suc}
-use native.Mathlib.Omega.{arith}
-use lib.Dec.{lit<}
+use mathlib.Core.List.{List}
+use Prim.Native.Nat.{ℕ}
+use native.Mathlib.Nat.{div-eq_of_lt}
 use lib.ListN.{length}
-use Rattle.routing.proofs.Masks.{bit_le}
 use Rattle.words.specs.Word.{right_count, wrong, late}
 use Rattle.gates.specs.Evaluation.{outside_limits, fault, first_fault, done, value_of, evaluated}
 use Rattle.gates.proofs.Limits.{neither, passed}

@@ -1,9 +1,8 @@
 use mathlib.Core.Path.{◌≡◌, ap, ◌∙◌}
 use Prim.Native.Nat.{ℕ}
-use lib.ListN.{length, take}
+use lib.ListN.{length}
 use borrow.Author.Rules.{rules}
 use Rattle.gates.specs.Evaluation.{value_of}
-use Rattle.blocks.specs.Lines.{lines}
 use Rattle.blocks.proofs.Numbers.{eight_enough}
 use Rattle.blocks.proofs.line.nets.Goals as goal
 
