@@ -41,7 +41,7 @@ fn decode(header: u8) -> Requests
 pub fn decode_all(headers: [u8; 4]) -> [Requests; 4]
     ensures { result ≡ four (λ i. decoding (header_of headers i)) }
 {
-    headers.map(|header| decode(header))
+    headers.map(decode)
 }
 
 // Phase: the phase at the start, the frame start, and bit 0 of each header.
@@ -59,6 +59,7 @@ fn filter(d: [Requests; 4], o: usize) -> [bool; 4]
     blocks::filtered(d.map(|of| of.high[o]), d.map(|of| of.asks[o]))
 }
 
+// Here and in `select_all` the closure has its own `ensures`: of a closure that gives an array the one that is inferred does not show which array.
 pub fn filter_all(d: [Requests; 4]) -> [[bool; 4]; 4]
     ensures { result ≡ four (filtering (requests_of d)) }
 {
