@@ -2,18 +2,16 @@
 -- pattern of block inputs, the nets that the block's function reads. Assumes nothing.
 use mathlib.Core.Bool.{Bool, false}
 use mathlib.Core.Path.{◌≡◌, refl, sym}
-use mathlib.Core.List.{List, [], ◌∷◌}
-use Prim.Native.Nat.{ℕ, ◌^◌, ◌<◌}
-use native.Mathlib.Nat.{div-eq_of_lt, pow-suc}
-use native.Mathlib.Omega.{arith}
-use lib.Dec.{lit<}
+use mathlib.Core.List.{List}
+use Prim.Native.Nat.{ℕ}
+use native.Mathlib.Nat.{div-eq_of_lt}
 use lib.ListN.{length}
-use Rattle.routing.proofs.Masks.{bit_le}
 use Rattle.words.specs.Word.{right_count, wrong, late}
 use Rattle.gates.specs.Evaluation.{outside_limits, fault, first_fault, done, value_of, evaluated}
 use Rattle.gates.proofs.Limits.{neither, passed}
 use Rattle.gates.proofs.Values.{evaluated_value}
 use Rattle.blocks.specs.Lines.{lines}
+use Rattle.blocks.proofs.Numbers.{lines_lt}
 use Rattle.blocks.specs.Decode.{decode_words}
 use Rattle.blocks.specs.Filter.{filter_words}
 use Rattle.blocks.specs.Phase.{phase_words}
@@ -25,11 +23,6 @@ Formed words inputs = (outside_limits words inputs ≡ false) × (first_fault wo
 pub well_formed : Formed decode_words 4 × Formed filter_words 8 × Formed phase_words 6
 unfolding first_fault right_count wrong late
 well_formed = ((refl, refl), (refl, refl), (refl, refl))
-
--- block inputs are a number below 2 to the power of their count
-lines_lt : (l : List Bool) → lines l < 2 ^ length l
-lines_lt [] = lit< tt
-lines_lt (b ∷ bs) = rw (pow-suc 2 (length bs)) (omega (arith, bit_le b, lines_lt bs))
 
 pub evaluates : (words : List ℕ) (l : List Bool) → Formed words (length l) → evaluated words (length l) (lines l) ≡ done (value_of words (length l) (lines l))
 evaluates words l formed =

@@ -2,7 +2,7 @@
 ghost use Rattle.std.specs.Prelude.{◌≡◌};
 ghost use Rattle.blocks.specs.Decode.{decoded};
 
-use super::line::{four_nets, lines};
+use super::line::{four_nets, nets};
 
 const DECODE: [u32; 10] = [
     // 0 active, 1 priority, 2 bit2 and 3 bit3: the bits of the header that name an output, bit3 the higher one
@@ -28,13 +28,9 @@ pub struct Requests {
 pub fn decoded(active: bool, priority: bool, bit2: bool, bit3: bool) -> Requests
     ensures { result ≡ decoded active priority bit2 bit3 }
 {
-    let v = gates::value(
-        &DECODE,
-        4,
-        lines(active, priority, bit2, bit3, false, false, false, false),
-    );
+    let v = nets(&DECODE, &[active, priority, bit2, bit3]);
     Requests {
-        high: four_nets(v, 6, 7, 8, 9),
-        asks: four_nets(v, 10, 11, 12, 13),
+        high: four_nets(v, [6, 7, 8, 9]),
+        asks: four_nets(v, [10, 11, 12, 13]),
     }
 }

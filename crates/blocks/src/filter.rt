@@ -2,7 +2,7 @@
 ghost use Rattle.std.specs.Prelude.{◌≡◌};
 ghost use Rattle.blocks.specs.Filter.{filtered};
 
-use super::line::{four_nets, lines};
+use super::line::{four_nets, nets};
 
 const FILTER: [u32; 12] = [
     // 0 to 3 high0 to high3: the input asks in the high class; 4 to 7 asks0 to asks3: it asks
@@ -23,12 +23,11 @@ const FILTER: [u32; 12] = [
 pub fn filtered(high: [bool; 4], asks: [bool; 4]) -> [bool; 4]
     ensures { result ≡ filtered high asks }
 {
-    let v = gates::value(
+    let v = nets(
         &FILTER,
-        8,
-        lines(
+        &[
             high[0], high[1], high[2], high[3], asks[0], asks[1], asks[2], asks[3],
-        ),
+        ],
     );
-    four_nets(v, 10, 13, 16, 19)
+    four_nets(v, [10, 13, 16, 19])
 }

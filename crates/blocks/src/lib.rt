@@ -13,5 +13,5 @@ mod phase;
 
 pub use decode::{Requests, decoded};
 pub use filter::filtered;
-pub use line::{four_nets, lines};
+pub use line::{four_nets, lines, nets};
 pub use phase::{Timing, phased};

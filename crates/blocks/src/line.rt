@@ -1,29 +1,31 @@
-// Eight yes and no as a number, the first in bit 0: so a block takes its inputs, and so a byte is made of its bits.
-ghost use Rattle.std.specs.Prelude.{◌≡◌, [], ◌∷◌, ◌<◌, ◌≤◌};
-ghost use Rattle.routing.specs.Four.{bit};
-ghost use Rattle.blocks.specs.Lines.{lines, four_nets};
+// A block's inputs as a number, the first in bit 0, and the nets that its table makes of them. A byte is made of its bits in the same way.
+ghost use Rattle.std.specs.Prelude.{◌≡◌, length, get_or, take};
+ghost use Rattle.routing.specs.Four.{four, bit_at};
+ghost use Rattle.gates.specs.Evaluation.{value_of};
+ghost use Rattle.blocks.specs.Lines.{lines};
 
-fn line(b: bool) -> u64
-    ensures { (result ≡ bit b) × (result ≤ 1) }
+// Of more than eight bits it takes the first eight.
+pub fn lines(bits: &[bool]) -> u8
+    ensures { result ≡ lines (take 8 bits.now) }
 {
-    b as u64
+    let first = &bits[..bits.len().min(8)];
+    let mut n = 0u8;
+    for (i, &b) in first.iter().enumerate() {
+        n += u8::from(b) << i;
+    }
+    n
 }
 
-pub fn lines(a: bool, b: bool, c: bool, d: bool, e: bool, f: bool, g: bool, h: bool) -> u64
-    ensures { (result ≡ lines (a ∷ b ∷ c ∷ d ∷ e ∷ f ∷ g ∷ h ∷ [])) × (result < 256) }
+// The nets of a table over its block inputs. No table has more than eight.
+pub fn nets(table: &[u32], inputs: &[bool]) -> u64
+    ensures { result ≡ value_of table.now (length inputs.now) (lines inputs.now) }
 {
-    let high = line(e) + 2 * (line(f) + 2 * (line(g) + 2 * line(h)));
-    line(a) + 2 * (line(b) + 2 * (line(c) + 2 * (line(d) + 2 * high)))
+    gates::value(table, inputs.len(), u64::from(lines(inputs)))
 }
 
 // Four nets of an evaluation.
-pub fn four_nets(v: u64, a: u32, b: u32, c: u32, d: u32) -> [bool; 4]
-    ensures { result ≡ four_nets v a b c d }
+pub fn four_nets(v: u64, places: [u32; 4]) -> [bool; 4]
+    ensures { result ≡ four (λ k. bit_at (get_or places k 0) v) }
 {
-    [
-        words::net(v, a),
-        words::net(v, b),
-        words::net(v, c),
-        words::net(v, d),
-    ]
+    places.map(|n| words::net(v, n))
 }

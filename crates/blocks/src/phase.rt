@@ -2,7 +2,7 @@
 ghost use Rattle.std.specs.Prelude.{◌≡◌};
 ghost use Rattle.blocks.specs.Phase.{phased};
 
-use super::line::lines;
+use super::line::nets;
 
 const PHASE: [u32; 5] = [
     // 0 waiting, 1 start: frame start, 2 to 5 active0 to active3: the header is active
@@ -22,12 +22,9 @@ pub struct Timing {
 pub fn phased(waiting: bool, start: bool, active: [bool; 4]) -> Timing
     ensures { result ≡ phased waiting start active }
 {
-    let v = gates::value(
+    let v = nets(
         &PHASE,
-        6,
-        lines(
-            waiting, start, active[0], active[1], active[2], active[3], false, false,
-        ),
+        &[waiting, start, active[0], active[1], active[2], active[3]],
     );
     Timing {
         routing: words::net(v, 7),

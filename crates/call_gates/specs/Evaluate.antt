@@ -2,8 +2,7 @@
 use Rattle.std.specs.Prelude.{Bool, cond, ◌&&◌, List, [], ◌∷◌, ◌++◌, ℕ, zero, suc, ◌+◌, ◌-◌, ◌*◌, ◌/◌, ◌%◌, eqb, leb, length}
 use Rattle.text.specs.Ascii.{ascii}
 use Rattle.text.specs.Digits.{hexes}
-use Rattle.gates.specs.declared.evaluator.Evaluated.{Evaluated}
-use Rattle.gates.specs.Evaluation.{evaluated}
+use Rattle.gates.specs.Evaluation.{Evaluated, evaluated}
 use Rattle.parts.specs.Parts.{word_at, long_at, number_text, malformed}
 
 -- whole words, and at most 128 of them

@@ -11,9 +11,8 @@ use lib.ListN.{length, get_or, take, drop}
 use borrow.Author.Tests.{leb-false}
 use Rattle.routing.specs.Four.{bit, bit_at}
 use Rattle.routing.proofs.Equal.{two}
-use Rattle.gates.specs.declared.evaluator.Fault.{Fault}
 use Rattle.words.specs.Word.{kind_of, count_of, fields, any, made, gate, wrong, late}
-use Rattle.gates.specs.Evaluation.{nets_after, fault, first_fault}
+use Rattle.gates.specs.Evaluation.{Fault, nets_after, fault, first_fault}
 use Rattle.words.proofs.Bits.{set_lt, bit_set, bit_below}
 use Rattle.gates.proofs.Limits.{neither}
 

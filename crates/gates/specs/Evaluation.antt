@@ -2,9 +2,18 @@
 use Rattle.std.specs.Prelude.{Bool, cond, not, ◌||◌, List, [], ◌∷◌, ℕ, suc, ◌+◌, ◌*◌, ◌/◌, ◌^◌, eqb, ltb, length}
 use Rattle.routing.specs.Four.{bit}
 use Rattle.states.specs.State.{◌when◌otherwise◌}
-use Rattle.gates.specs.declared.evaluator.Evaluated.{Evaluated}
-use Rattle.gates.specs.declared.evaluator.Fault.{Fault}
 use Rattle.words.specs.Word.{gate, wrong, late}
+
+-- what the evaluator answers: the refusal's number or 0, the index of a bad word or 0, and the number whose bit n is net n
+pub record Evaluated : Type 0 where
+  pub number : ℕ
+  pub index : ℕ
+  pub value : ℕ
+
+-- what the test of the words finds: 11 or 12 with the word's index, or 0 and 0
+pub record Fault : Type 0 where
+  pub number : ℕ
+  pub index : ℕ
 
 -- the nets after the gates of a list, where v holds the nets below n and the list's first gate makes net n
 unfoldable pub nets_after : List ℕ → ℕ → ℕ → ℕ

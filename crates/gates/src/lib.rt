@@ -5,5 +5,7 @@
 #![tactic(auto)]
 
 mod evaluator;
+mod refusal;
 
-pub use evaluator::{Evaluated, evaluate, value};
+pub use evaluator::{evaluate, value};
+pub use refusal::Refusal;

@@ -2,7 +2,7 @@
 ghost use Rattle.std.specs.Prelude.{◌≡◌};
 ghost use Rattle.ways.specs.Choose.{chosen};
 
-use blocks::lines;
+use blocks::nets;
 
 const CHOOSE: [u32; 3] = [
     // 0 to 3 bit0 to bit3, 4 to 7 lets0 to lets3: the bit is let through
@@ -14,12 +14,11 @@ const CHOOSE: [u32; 3] = [
 pub fn chosen(bits: [bool; 4], lets: [bool; 4]) -> bool
     ensures { result ≡ chosen bits lets }
 {
-    let v = gates::value(
+    let v = nets(
         &CHOOSE,
-        8,
-        lines(
+        &[
             bits[0], bits[1], bits[2], bits[3], lets[0], lets[1], lets[2], lets[3],
-        ),
+        ],
     );
     words::net(v, 10)
 }

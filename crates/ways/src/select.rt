@@ -2,7 +2,7 @@
 ghost use Rattle.std.specs.Prelude.{◌≡◌};
 ghost use Rattle.ways.specs.Select.{selected};
 
-use blocks::{four_nets, lines};
+use blocks::{four_nets, nets};
 
 const SELECT: [u32; 6] = [
     // 0 low and 1 high: the holder's bits, 2 shut
@@ -17,10 +17,6 @@ const SELECT: [u32; 6] = [
 pub fn selected(low: bool, high: bool, shut: bool) -> [bool; 4]
     ensures { result ≡ selected low high shut }
 {
-    let v = gates::value(
-        &SELECT,
-        3,
-        lines(low, high, shut, false, false, false, false, false),
-    );
-    four_nets(v, 5, 6, 7, 8)
+    let v = nets(&SELECT, &[low, high, shut]);
+    four_nets(v, [5, 6, 7, 8])
 }

@@ -2,7 +2,7 @@
 ghost use Rattle.std.specs.Prelude.{◌≡◌};
 ghost use Rattle.ways.specs.Shut.{shut_next};
 
-use blocks::lines;
+use blocks::nets;
 
 const SHUT: [u32; 5] = [
     // 0 shut, 1 start: frame start, 2 routing, 3 to 6 r0 to r3: the input remains
@@ -16,12 +16,11 @@ const SHUT: [u32; 5] = [
 pub fn shut_next(shut: bool, start: bool, routing: bool, remain: [bool; 4]) -> bool
     ensures { result ≡ shut_next shut start routing remain }
 {
-    let v = gates::value(
+    let v = nets(
         &SHUT,
-        7,
-        lines(
-            shut, start, routing, remain[0], remain[1], remain[2], remain[3], false,
-        ),
+        &[
+            shut, start, routing, remain[0], remain[1], remain[2], remain[3],
+        ],
     );
     words::net(v, 11)
 }

@@ -2,7 +2,7 @@
 ghost use Rattle.std.specs.Prelude.{◌≡◌};
 ghost use Rattle.ways.specs.Turn.{number_of, turned};
 
-use blocks::lines;
+use blocks::{lines, nets};
 
 // Each of the holder's two bits goes by a JK rule: j sets it where it is 0, k clears it where it is 1.
 const TURN: [u32; 25] = [
@@ -44,12 +44,11 @@ pub struct Holder {
 pub fn turned(remain: [bool; 4], low: bool, high: bool, routing: bool) -> Holder
     ensures { result ≡ turned remain low high routing }
 {
-    let v = gates::value(
+    let v = nets(
         &TURN,
-        7,
-        lines(
-            remain[0], remain[1], remain[2], remain[3], low, high, routing, false,
-        ),
+        &[
+            remain[0], remain[1], remain[2], remain[3], low, high, routing,
+        ],
     );
     Holder {
         low: words::net(v, 31),
@@ -61,5 +60,5 @@ pub fn turned(remain: [bool; 4], low: bool, high: bool, routing: bool) -> Holder
 pub fn number_of(h: Holder) -> u8
     ensures { result ≡ number_of h }
 {
-    lines(h.low, h.high, false, false, false, false, false, false) as u8
+    lines(&[h.low, h.high])
 }

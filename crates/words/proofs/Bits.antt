@@ -17,10 +17,10 @@ no_bit v n h = sym (ap (λ q. eqb (q % 2) 1) (div-eq_of_lt h))
 pub no_bit_64 : (v n : ℕ) → v < 2 ^ 64 → 64 ≤ n → false ≡ bit_at n v
 no_bit_64 v n h l = no_bit v n (lt_of_lt_of_le h (pow_mono l))
 
--- what `(b as u64) << n` gives
-pub shifted : (b : Bool) (n : ℕ) → n < 64 → (bool_byte b * 2 ^ n) % 2 ^ 64 ≡ bit b * 2 ^ n
-shifted true n h = shl_exact 1 n 64 (lit< tt) (omega arith)
-shifted false n h = shl_exact {a = 0} 1 n 64 (lit< tt) (omega arith)
+-- what shifting a yes or no gives, in a number of w bits
+pub shifted : {r : ℕ} (b : Bool) (n w : ℕ) → r ≡ bool_byte b → n < w → (r * 2 ^ n) % 2 ^ w ≡ bit b * 2 ^ n
+shifted true n w e h = rw e (shl_exact 1 n w (lit< tt) (omega arith))
+shifted false n w e h = rw e (shl_exact {a = 0} 1 n w (lit< tt) (omega arith))
 
 pub set_lt : (v n : ℕ) (b : Bool) → v < 2 ^ n → v + bit b * 2 ^ n < 2 ^ (n + 1)
 set_lt v n true h = rw (add-one n, pow-suc 2 n) (omega arith)

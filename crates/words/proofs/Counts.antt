@@ -1,81 +1,80 @@
--- What a word's count covers, as the code asks for it; most of it is tests computed at every kind, count and answer. Assumes nothing.
-use mathlib.Core.Bool.{Bool, false, not, ◌&&◌, ◌||◌, beq}
-use mathlib.Core.Path.{◌≡◌, sym, ap, ◌∙◌}
+-- What a word's count covers, as the code asks for it. Assumes nothing.
+use mathlib.Core.Bool.{Bool, false, ◌&&◌, ◌||◌}
+use mathlib.Core.Path.{◌≡◌, refl, sym, ap, ◌∙◌}
 use mathlib.Core.Logic.{◌≢◌}
-use mathlib.Core.List.{List, [], ◌∷◌}
-use Prim.Native.Nat.{ℕ, ◌/◌, ◌%◌, ◌^◌, ◌≤◌, ◌<◌}
+use mathlib.Core.List.{List, [], ◌∷◌, map}
+use Prim.Native.Nat.{ℕ, zero, suc, ◌≤◌, ◌<◌}
 use native.Mathlib.Omega.{arith}
-use lib.Dec.{eqb, ltb}
-use lib.ListN.{get_or, take, drop, get_or-eq_default}
-use Rattle.routing.specs.Four.{bit_at}
-use Rattle.routing.proofs.Equal.{row_of}
-use Rattle.routing.proofs.Tests.{upto, flags, everywhere, beq→eq}
-use Rattle.words.specs.Word.{kind_of, count_of, any, differ, values, made, gate, right_count}
+use lib.Dec.{eqb}
+use lib.ListN.{take, drop, get_or-eq_default}
+use Rattle.std.specs.List.{list_any, list_all}
+use Rattle.words.specs.Word.{two_to_four, every, any, values, made, right_count}
 
-abbrev four : Bool → Bool → Bool → Bool → List Bool
-four a b c d = a ∷ b ∷ c ∷ d ∷ []
-
-abbrev one : Bool → Bool → Bool → Bool → Bool
-one a b c d = ((a || b) || c) || d
-
-abbrev counted : ℕ → ℕ → Bool
-counted k n =
-    one (ltb k 2 && eqb n 1) (((ltb 1 k && ltb k 6) && ltb 1 n) && ltb n 5) ((ltb 5 k && ltb k 8) && eqb n 2)
-    (eqb k 8 && eqb n 4)
-
-pub right_count_lem : (k n : ℕ) → k < 16 → n < 16 → counted k n ≡ right_count k n
+-- each kind's right count
+pub one_net : (k n : ℕ) → k < 2 → eqb n 1 ≡ right_count k n
 unfolding right_count
-right_count_lem k n hk hn =
-    beq→eq _ _ (everywhere (upto 16 ∷ upto 16 ∷ []) (λ k n. beq (counted k n) (right_count k n)) tt k hk n hn)
+one_net zero n h = refl
+one_net (suc zero) n h = refl
+one_net (suc (suc k)) n h = absurd (omega arith)
 
--- one of those that the count covers, and one of the others
-abbrev covered : ℕ → Bool → Bool → Bool → Bool → Bool
-covered n a b c d = one (ltb 0 n && a) (ltb 1 n && b) (ltb 2 n && c) (ltb 3 n && d)
+pub several_nets : (k n : ℕ) → 2 ≤ k → k < 6 → two_to_four n ≡ right_count k n
+unfolding right_count
+several_nets zero n l h = absurd (omega arith)
+several_nets (suc zero) n l h = absurd (omega arith)
+several_nets (suc (suc zero)) n l h = refl
+several_nets (suc (suc (suc zero))) n l h = refl
+several_nets (suc (suc (suc (suc zero)))) n l h = refl
+several_nets (suc (suc (suc (suc (suc zero))))) n l h = refl
+several_nets (suc (suc (suc (suc (suc (suc k)))))) n l h = absurd (omega arith)
 
-abbrev spare : ℕ → Bool → Bool → Bool → Bool → Bool
-spare n a b c d = one (ltb n 1 && a) (ltb n 2 && b) (ltb n 3 && c) (ltb n 4 && d)
+pub two_nets : (k n : ℕ) → 6 ≤ k → k < 8 → eqb n 2 ≡ right_count k n
+unfolding right_count
+two_nets (suc (suc (suc (suc (suc (suc zero)))))) n l h = refl
+two_nets (suc (suc (suc (suc (suc (suc (suc zero))))))) n l h = refl
+two_nets (suc (suc (suc (suc (suc (suc (suc (suc k)))))))) n l h = absurd (omega arith)
+two_nets (suc (suc (suc (suc (suc zero))))) n l h = absurd (omega arith)
+two_nets (suc (suc (suc (suc zero)))) n l h = absurd (omega arith)
+two_nets (suc (suc (suc zero))) n l h = absurd (omega arith)
+two_nets (suc (suc zero)) n l h = absurd (omega arith)
+two_nets (suc zero) n l h = absurd (omega arith)
+two_nets zero n l h = absurd (omega arith)
 
-pub any_covered : (n : ℕ) (a b c d : Bool) → n < 16 → covered n a b c d ≡ any (take n (four a b c d))
-any_covered n a b c d h =
-    beq→eq _ _
-    (everywhere (upto 16 ∷ flags []) (λ n a b c d. beq (covered n a b c d) (any (take n (four a b c d)))) tt n h a b c d)
+pub no_count : (k n : ℕ) → 9 ≤ k → false ≡ right_count k n
+unfolding right_count
+no_count k n h =
+    let any = two_to_four n in sym (get_or-eq_default (eqb n 1 ∷ eqb n 1 ∷ any ∷ any ∷ any ∷ any ∷ eqb n 2 ∷ eqb n 2 ∷ eqb n 4 ∷ []) false h)
 
-pub any_spare : (n : ℕ) (a b c d : Bool) → n < 16 → spare n a b c d ≡ any (drop n (four a b c d))
-any_spare n a b c d h =
-    beq→eq _ _
-    (everywhere (upto 16 ∷ flags []) (λ n a b c d. beq (spare n a b c d) (any (drop n (four a b c d)))) tt n h a b c d)
+-- the library's words for one of some and all of some, as this crate's
+pub any_taken : (test : ℕ → Bool) (n : ℕ) (xs : List ℕ) → list_any test (take n xs) ≡ any (take n (map test xs))
+any_taken test zero xs = refl
+any_taken test (suc n) [] = refl
+any_taken test (suc n) (x ∷ xs) = ap (λ b. test x || b) (any_taken test n xs)
 
--- what the code makes for each kind
-abbrev all : ℕ → Bool → Bool → Bool → Bool → Bool
-all n x y z u = (((x || ltb n 1) && (y || ltb n 2)) && (z || ltb n 3)) && (u || ltb n 4)
+any_of : (test : ℕ → Bool) (xs : List ℕ) → list_any test xs ≡ any (map test xs)
+any_of test [] = refl
+any_of test (x ∷ xs) = ap (λ b. test x || b) (any_of test xs)
 
-abbrev kinds : ℕ → Bool → Bool → Bool → Bool → List Bool
-kinds n x y z u =
-    x
-    ∷ not x
-    ∷ all n x y z u
-    ∷ not (all n x y z u)
-    ∷ one x y z u
-    ∷ not (one x y z u)
-    ∷ differ x y
-    ∷ not (differ x y)
-    ∷ ((x && y) || (z && u))
-    ∷ []
+pub any_dropped : (test : ℕ → Bool) (n : ℕ) (xs : List ℕ) → list_any test (drop n xs) ≡ any (drop n (map test xs))
+any_dropped test zero xs = any_of test xs
+any_dropped test (suc n) [] = refl
+any_dropped test (suc n) (x ∷ xs) = any_dropped test n xs
 
-abbrev known : ℕ → ℕ → Bool → Bool → Bool → Bool → Bool
-known k n a b c d = get_or (kinds n (ltb 0 n && a) (ltb 1 n && b) (ltb 2 n && c) (ltb 3 n && d)) k false
+pub any_yes : (bs : List Bool) → list_any (λ b. b) bs ≡ any bs
+any_yes [] = refl
+any_yes (b ∷ bs) = ap (λ c. b || c) (any_yes bs)
 
-module _ (kind n : ℕ) (a b c d : Bool) where
-  pub made_known : (k : ℕ) → k < 9 → n < 16 → kind ≡ k → known k n a b c d ≡ made kind (take n (four a b c d))
+pub all_yes : (bs : List Bool) → list_all (λ b. b) bs ≡ every bs
+all_yes [] = refl
+all_yes (b ∷ bs) = ap (λ c. b && c) (all_yes bs)
+
+-- what the code makes of the values read, for each kind
+module _ (bs : List Bool) where
+  pub made_known : {kind k : ℕ} {b : Bool} → kind ≡ k → b ≡ made k bs → b ≡ made kind bs
+  made_known e is = is ∙ ap (λ (k : ℕ). made k bs) (sym e)
+
+  pub made_unknown : (kind : ℕ) → 9 ≤ kind → false ≡ made kind bs
   unfolding made
-  made_known k hk hn e =
-      beq→eq _ _
-      (everywhere (upto 9 ∷ upto 16 ∷ flags []) (λ k n a b c d. beq (known k n a b c d) (made k (take n (four a b c d)))) tt k hk n hn a b c d)
-      ∙ ap (λ (k : ℕ). made k (take n (four a b c d))) (sym e)
-
-pub made_unknown : (kind : ℕ) (bs : List Bool) → 9 ≤ kind → false ≡ made kind bs
-unfolding made
-made_unknown kind bs h = sym (get_or-eq_default (values bs) false h)
+  made_unknown kind h = sym (get_or-eq_default (values bs) false h)
 
 -- in two steps, since `omega` takes at most six case splits
 pub past_four : {k : ℕ} → k ≢ 0 → k ≢ 1 → k ≢ 2 → k ≢ 3 → k ≢ 4 → 5 ≤ k
@@ -83,10 +82,3 @@ past_four a b c d e = omega arith
 
 pub past_eight : {k : ℕ} → 5 ≤ k → k ≢ 5 → k ≢ 6 → k ≢ 7 → k ≢ 8 → 9 ≤ k
 past_eight h a b c d = omega arith
-
--- a gate's value from what its four nets hold
-module _ (w v : ℕ) where
-  pub gate_made : {r a b c d : Bool} → r ≡ made (kind_of w) (take (count_of w) (four a b c d)) → a ≡ bit_at (w / 2 ^ 22 % 64) v
-      → b ≡ bit_at (w / 2 ^ 16 % 64) v → c ≡ bit_at (w / 2 ^ 10 % 64) v → d ≡ bit_at (w / 2 ^ 4 % 64) v → r ≡ gate w v
-  unfolding gate
-  gate_made is a b c d = is ∙ ap (λ (bs : List Bool). made (kind_of w) (take (count_of w) bs)) (row_of a b c d)

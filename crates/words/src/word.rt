@@ -1,7 +1,7 @@
 // One gate word: its fields, the two ways in which it can be bad, and the value of its gate.
-ghost use Rattle.std.specs.Prelude.{◌≡◌, [], ◌∷◌, ◌<◌, take};
+ghost use Rattle.std.specs.Prelude.{◌≡◌, false, get_or};
 ghost use Rattle.routing.specs.Four.{bit_at};
-ghost use Rattle.words.specs.Word.{right_count, wrong, late, made, gate};
+ghost use Rattle.words.specs.Word.{fields, count_of, every, any, right_count, wrong, late, made, gate};
 
 // Net n of the nets v; there are none past 63.
 pub fn net(v: u64, n: u32) -> bool
@@ -10,25 +10,38 @@ pub fn net(v: u64, n: u32) -> bool
     if n < 64 { (v >> n) % 2 == 1 } else { false }
 }
 
-fn right_count(kind: u32, n: u32) -> bool
-    requires { (kind < 16) × (n < 16) }
+// The net numbers in a word's four fields.
+fn fields(w: u32) -> [u32; 4]
+    ensures { result ≡ fields (λ n. n) w }
+{
+    [w >> 22, w >> 16, w >> 10, w >> 4].map(|from_here| from_here % 64)
+}
+
+// How many of its fields a word uses.
+fn count(w: u32) -> usize
+    ensures { result ≡ count_of w }
+{
+    (w % 16) as usize
+}
+
+fn right_count(kind: u32, n: usize) -> bool
     ensures { result ≡ right_count kind n }
 {
-    ((kind < 2) & (n == 1))
-        | ((1 < kind) & (kind < 6) & (1 < n) & (n < 5))
-        | ((5 < kind) & (kind < 8) & (n == 2))
-        | ((kind == 8) & (n == 4))
+    match kind {
+        0 | 1 => n == 1,
+        2..=5 => (2 <= n) & (n <= 4),
+        6 | 7 => n == 2,
+        8 => n == 4,
+        _ => false, // no such kind
+    }
 }
 
 // Refusal 11: wrong kind, count or unused field.
 pub fn wrong(w: u32) -> bool
     ensures { result ≡ wrong w }
 {
-    let n = w % 16;
-    let unused = ((n < 1) & ((w >> 22) % 64 != 0))
-        | ((n < 2) & ((w >> 16) % 64 != 0))
-        | ((n < 3) & ((w >> 10) % 64 != 0))
-        | ((n < 4) & ((w >> 4) % 64 != 0));
+    let n = count(w);
+    let unused = fields(w).iter().skip(n).any(|&m| m != 0);
     !right_count(w >> 28, n) | unused
 }
 
@@ -36,34 +49,48 @@ pub fn wrong(w: u32) -> bool
 pub fn late(w: u32, m: u32) -> bool
     ensures { result ≡ late w m }
 {
-    let n = w % 16;
-    ((0 < n) & (m <= (w >> 22) % 64))
-        | ((1 < n) & (m <= (w >> 16) % 64))
-        | ((2 < n) & (m <= (w >> 10) % 64))
-        | ((3 < n) & (m <= (w >> 4) % 64))
+    fields(w).iter().take(count(w)).any(|&n| m <= n)
 }
 
-// What a gate of a kind makes of the first n of four nets.
-fn made(kind: u32, n: u32, a: bool, b: bool, c: bool, d: bool) -> bool
-    requires { n < 16 }
-    ensures { result ≡ made kind (take n (a ∷ b ∷ c ∷ d ∷ [])) }
+// One of the values that a gate reads; it is 0 where the gate reads fewer.
+fn at(read: &[bool], i: usize) -> bool
+    ensures { result ≡ get_or read.now i false }
 {
-    let x = (0 < n) & a;
-    let y = (1 < n) & b;
-    let z = (2 < n) & c;
-    let u = (3 < n) & d;
-    let every = (x | (n < 1)) & (y | (n < 2)) & (z | (n < 3)) & (u | (n < 4));
-    let any = x | y | z | u;
+    i < read.len() && read[i]
+}
+
+// All of the values that a gate reads are 1.
+fn every(read: &[bool]) -> bool
+    ensures { result ≡ every read.now }
+{
+    read.iter().all(|&b| b)
+}
+
+// One of them is 1, or more.
+fn any(read: &[bool]) -> bool
+    ensures { result ≡ any read.now }
+{
+    read.iter().any(|&b| b)
+}
+
+// What a gate of a kind makes of the values that it reads.
+fn made(kind: u32, read: &[bool]) -> bool
+    ensures { result ≡ made kind read.now }
+{
+    let x = at(read, 0);
+    let y = at(read, 1);
+    let all = every(read);
+    let some = any(read);
     match kind {
         0 => x,
         1 => !x,
-        2 => every,
-        3 => !every,
-        4 => any,
-        5 => !any,
+        2 => all,
+        3 => !all,
+        4 => some,
+        5 => !some,
         6 => x ^ y,
         7 => !(x ^ y),
-        8 => (x & y) | (z & u),
+        8 => (x & y) | (at(read, 2) & at(read, 3)),
         _ => false,
     }
 }
@@ -72,12 +99,6 @@ fn made(kind: u32, n: u32, a: bool, b: bool, c: bool, d: bool) -> bool
 pub fn gate(w: u32, v: u64) -> bool
     ensures { result ≡ gate w v }
 {
-    made(
-        w >> 28,
-        w % 16,
-        net(v, (w >> 22) % 64),
-        net(v, (w >> 16) % 64),
-        net(v, (w >> 10) % 64),
-        net(v, (w >> 4) % 64),
-    )
+    let read = fields(w).map(|n| net(v, n));
+    made(w >> 28, &read[..count(w).min(4)])
 }

@@ -1,26 +1,31 @@
-use mathlib.Core.Path.{sym, ap, ◌∙◌}
+use mathlib.Core.Path.{◌≡◌, ap, ◌∙◌}
+use borrow.Author.Rules.{rules}
+use Rattle.std.specs.Prelude.{Err}
 use Rattle.gates.specs.Evaluation.{done}
+use Rattle.gates.specs.Refusals.{answered}
 use Rattle.gates.proofs.Limits.{fits, input_below}
-use Rattle.gates.proofs.Values.{refused_early, refused_word, all_passed}
+use Rattle.gates.proofs.Values.{early_answered, early_passed, word_answered, value_answered}
 use Rattle.gates.proofs.evaluator.evaluate.Goals as goal
 
-pub returns-then-number-ne0 : goal.returns-then-number-ne0
-returns-then-number-ne0 c =
-    c.refused.ensures ∙ refused_early _ _ _ c.early_refusal-number.ensures c.if-number-ne0.true
+pub returns-in_err-early_refusal : goal.returns-in_err-early_refusal
+returns-in_err-early_refusal c =
+    let r = c.in_err-early_refusal.field-0.0 in
+    let is : c.from_residual.result ≡ Err r = search rules in
+    ap answered is ∙ early_answered _ _ _ r c.in_err-early_refusal.ensures
 
-pub first_fault-fault-requires : goal.first_fault-fault-requires
-first_fault-fault-requires c = fits _ _ _ (sym c.early_refusal-number.ensures ∙ c.if-number-ne0.false)
+pub first_fault-requires : goal.first_fault-requires
+first_fault-requires c = fits _ _ _ (early_passed _ _ _ c.in_ok-early_refusal.ensures)
 
-pub returns-then-bad-ne0 : goal.returns-then-bad-ne0
-returns-then-bad-ne0 c =
-    c.refused-then-bad-ne0.ensures
-    ∙ refused_word _ _ _ (sym c.early_refusal-number.ensures ∙ c.if-number-ne0.false) c.first_fault-fault.ensures c.if-bad-ne0.true
+pub returns-in_err-first_fault : goal.returns-in_err-first_fault
+returns-in_err-first_fault c =
+    let r = c.in_err-first_fault.field-0.0 in
+    let is : c.from_residual-in_err-first_fault.result ≡ Err r = search rules in
+    ap answered is ∙ word_answered _ _ _ (early_passed _ _ _ c.in_ok-early_refusal.ensures) r c.in_err-first_fault.ensures
 
 pub run-requires : goal.run-requires
 run-requires c =
-    let ok = sym c.early_refusal-number.ensures ∙ c.if-number-ne0.false in (fits _ _ _ ok, input_below _ _ _ ok)
+    let ok = early_passed _ _ _ c.in_ok-early_refusal.ensures in (fits _ _ _ ok, input_below _ _ _ ok)
 
 pub returns : goal.returns
 returns c =
-    ap done c.run.ensures
-    ∙ sym (all_passed _ _ _ (sym c.early_refusal-number.ensures ∙ c.if-number-ne0.false) c.first_fault-fault.ensures c.if-bad-ne0.false)
+    ap done c.run.ensures ∙ value_answered _ _ _ (early_passed _ _ _ c.in_ok-early_refusal.ensures) c.in_ok-first_fault.ensures

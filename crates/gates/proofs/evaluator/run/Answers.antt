@@ -1,18 +1,16 @@
 use native.Mathlib.Nat.{add-zero, add_assoc}
 use Rattle.gates.proofs.Loops.{nets_start, nets_again, nets_end}
-use borrow.Author.Rules.{rules}
 use Rattle.gates.proofs.evaluator.run.Goals as goal
 
 pub loop-i-init : goal.loop-i-init
-loop-i-init c = (search rules, rw add-zero c.requires.1, nets_start _ _ _)
+loop-i-init c = (rw add-zero c.requires.1, nets_start _ _ _)
 
 pub loop-i-preserved : goal.loop-i-preserved
 loop-i-preserved c =
     let l = c.loop-i in (
-      search rules,
       rw (← add_assoc) c.with_net-v.ensures.1,
-      nets_again _ _ _ l.i l.v l.invariant.2 c.loop-i-test.true c.gate.ensures c.with_net-v.ensures.0,
+      nets_again _ _ _ l.i l.v l.invariant.1 c.loop-i-test.true c.gate.ensures c.with_net-v.ensures.0,
     )
 
 pub returns : goal.returns
-returns c = nets_end _ _ _ c.loop-i.i _ c.loop-i.invariant.2 c.loop-i-test.false
+returns c = nets_end _ _ _ c.loop-i.i _ c.loop-i.invariant.1 c.loop-i-test.false

@@ -1,0 +1,14 @@
+use mathlib.Core.Path.{◌≡◌, ap}
+use borrow.Author.Rules.{rules}
+use Rattle.text.proofs.Pages.{◌then◌, spelt}
+use Rattle.text.specs.Digits.{hexes}
+use Rattle.parts.specs.Parts.{number_text}
+use Rattle.call_gates.proofs.evaluate.put_answer.Goals as goal
+
+pub returns : goal.returns
+returns c =
+    let is : c.from.result ≡ c.args.number = search rules in
+    spelt c.put_number-a.ensures (ap number_text is)
+    then c.put_number-b.ensures
+    then spelt c.put_hex-c.ensures (ap hexes c.to_be_bytes-bytes.ensures)
+    then c.put_byte.ensures
