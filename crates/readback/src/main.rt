@@ -2,32 +2,25 @@
 // the input; where the engines differ, nothing but where they do, on standard error.
 #![tactic(auto)]
 
-ghost use Rattle.std.specs.Prelude.{◌≡◌, length};
-
-// Room for the longest lines: four pieces of 12,288 bytes in hex, and what stands around them.
-fn blank_page() -> [u8; 131072]
-    ensures { 131072 ≡ length result }
-{
-    [0; 131072]
-}
+use input::Stream;
 
 fn main(rt: HostRuntime) {
-    let mut kept = io::large_buffer();
-    let mut from = rt.stdin();
-    let taken = input::take_in(&mut from, &mut kept);
-    if taken.failed {
-        input::write_all(
-            &rt,
-            input::STDERR,
-            b"cannot read the texts and the capture\n",
-        );
+    let mut kept = [0u8; 65536];
+    let Ok(total) = input::take_in(&mut rt.stdin(), &mut kept) else {
+        let words = b"cannot read the texts and the capture\n";
+        let _ = input::write_all(&rt, Stream::Error, words);
         return;
-    }
-    let mut page = blank_page();
-    let v = readings::read_back(&kept, taken.total, &mut page);
+    };
+    // room for the longest lines: four pieces of 12,288 bytes in hex, and what stands around them
+    let mut page = [0u8; 131072];
+    let v = readings::read_back(&kept, total, &mut page);
     let n = v.length;
-    let stream = verdict::stream(v.agreed);
-    if !input::write_all(&rt, stream, &page[..n]) {
-        input::write_all(&rt, input::STDERR, b"cannot write the lines\n");
+    let stream = if verdict::stream(v.agreed) == 1 {
+        Stream::Output
+    } else {
+        Stream::Error
+    };
+    if input::write_all(&rt, stream, &page[..n]).is_err() {
+        let _ = input::write_all(&rt, Stream::Error, b"cannot write the lines\n");
     }
 }

@@ -2,28 +2,24 @@
 // do, on standard error.
 #![tactic(auto)]
 
-ghost use Rattle.std.specs.Prelude.{◌≡◌, length};
-
-// Room for the longest listing.
-fn blank_page() -> [u8; 262144]
-    ensures { 262144 ≡ length result }
-{
-    [0; 262144]
-}
+use input::Stream;
 
 fn main(rt: HostRuntime) {
-    let mut kept = io::large_buffer();
-    let mut from = rt.stdin();
-    let taken = input::take_in(&mut from, &mut kept);
-    if taken.failed {
-        input::write_all(&rt, input::STDERR, b"cannot read the capture\n");
+    let mut kept = [0u8; 65536];
+    let Ok(total) = input::take_in(&mut rt.stdin(), &mut kept) else {
+        let _ = input::write_all(&rt, Stream::Error, b"cannot read the capture\n");
         return;
-    }
-    let mut page = blank_page();
-    let v = verdict::replay_by_both(&kept, taken.total, &mut page);
+    };
+    // room for the longest listing
+    let mut page = [0u8; 262144];
+    let v = verdict::replay_by_both(&kept, total, &mut page);
     let n = v.length;
-    let stream = verdict::stream(v.agreed);
-    if !input::write_all(&rt, stream, &page[..n]) {
-        input::write_all(&rt, input::STDERR, b"cannot write the listing\n");
+    let stream = if verdict::stream(v.agreed) == 1 {
+        Stream::Output
+    } else {
+        Stream::Error
+    };
+    if input::write_all(&rt, stream, &page[..n]).is_err() {
+        let _ = input::write_all(&rt, Stream::Error, b"cannot write the listing\n");
     }
 }
