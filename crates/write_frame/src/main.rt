@@ -2,15 +2,21 @@
 // standard error, and nothing of its frame is written.
 #![tactic(auto)]
 
-ghost use Rattle.std.specs.Prelude.{◌≡◌, ◌+◌, ◌<◌, ◌≤◌, length, IfOk};
+ghost use Rattle.std.specs.Prelude.{◌≡◌, ◌+◌, ◌<◌, ◌≤◌, length, take, drop, IfOk};
 ghost use Rattle.std.specs.Io.{ReadsAtMost};
+ghost use Rattle.std.specs.Io.KnownBytes.{Consumes, IsAtEnd};
+ghost use Rattle.orders.specs.Order.{order_size};
 
 use input::Stream;
 use std::io::{Read, Result};
 
 fn fill_between<R: Read>(from: &mut R, order: &mut [u8], have: usize, want: usize) -> Result<usize>
     requires { (have ≤ want) × (want ≤ length order.old) }
-    ensures { IfOk result (λ n. have + n ≤ want) }
+    ensures front { take have order.new ≡ take have order.old }
+    ensures fits { IfOk result (λ n. have + n ≤ want) }
+    ensures bytes { IfOk result (λ n. Consumes (R.remaining from.old) (R.remaining from.new)
+        (take n (drop have order.new))) }
+    ensures end { IfOk result (λ n. n ≡ 0 → have < want → IsAtEnd (R.remaining from.new)) }
 {
     input::fill(from, &mut order[have..want])
 }
@@ -18,7 +24,10 @@ fn fill_between<R: Read>(from: &mut R, order: &mut [u8], have: usize, want: usiz
 // Reads as much as one order has, or what is left of the input.
 fn read_order<R: Read>(from: &mut R, order: &mut [u8]) -> Result<usize>
     requires { length order.old ≡ 1032 }
-    ensures { ReadsAtMost result order.new }
+    ensures bound { ReadsAtMost result order.new }
+    ensures bytes { IfOk result (λ n. Consumes (R.remaining from.old) (R.remaining from.new)
+        (take n order.new)) }
+    ensures end { IfOk result (λ n. n < order_size (take n order.new) → IsAtEnd (R.remaining from.new)) }
 {
     let mut have: usize = 0;
     let mut want = orders::order_size(b"");
