@@ -1,7 +1,8 @@
 // Answers the requests on standard input, a line for each, until the input ends.
 #![tactic(auto)]
 
-ghost use Rattle.std.specs.Prelude.{◌≡◌, length, IfOk};
+ghost use Rattle.std.specs.Prelude.{◌≡◌, ◌++◌, length, take, IfOk};
+ghost use Rattle.std.specs.Io.KnownBytes.{Consumes};
 ghost use Rattle.io.specs.Counts.{IsPrefixLen};
 
 use input::Stream;
@@ -16,6 +17,8 @@ fn read_request<R: Read>(
     requires { 65536 ≡ length payload.old }
     ensures header { IfOk result (λ n. IsPrefixLen n.0 header.new) }
     ensures payload { IfOk result (λ n. IsPrefixLen n.1 payload.new) }
+    ensures bytes { IfOk result (λ n. Consumes (R.remaining from.old) (R.remaining from.new)
+        (take n.0 header.new ++ take n.1 payload.new)) }
 {
     let h = input::fill(&mut *from, &mut *header)?;
     let n = requests::payload_length(&header[..h]);
