@@ -25,6 +25,7 @@ pub fn fill<R: Read>(from: &mut R, buf: &mut [u8]) -> Result<usize>
     ensures end { IfOk result (λ n. n < length buf.new → IsAtEnd (R.remaining from.new)) }
     ensures err { OnErr result ((n : ℕ) × (n ≤ length buf.new) × Consumes (R.remaining from.old) (R.remaining from.new) (take n buf.new)) }
 {
+    // not a slice that shrinks: the loop's facts would have no name for the bytes that it has passed, so `bytes` could not be kept
     let mut at: usize = 0;
     while at < buf.len() {
         let n = read_from(&mut *from, &mut *buf, at)?;
@@ -47,6 +48,7 @@ fn count_rest<R: Read>(from: &mut R) -> Result<u64>
 {
     let mut space = [0u8; 65536];
     let mut total: u64 = 0;
+    // not `io::copy` into a sink: it tries an interrupted read again, and here that is a failure
     for _ in 0..TURNS {
         let n = from.read(&mut space)?;
         if n == 0 {

@@ -29,6 +29,7 @@ fn read_order<R: Read>(from: &mut R, order: &mut [u8]) -> Result<usize>
         (take n order.new)) }
     ensures end { IfOk result (λ n. n < order_size (take n order.new) → IsAtEnd (R.remaining from.new)) }
 {
+    // how far the order goes is known only from what was read of it, so no slice or range can be walked
     let mut have: usize = 0;
     let mut want = orders::order_size(b"");
     while have < want {
