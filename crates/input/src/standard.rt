@@ -1,124 +1,76 @@
 // Reading until a buffer is full or the input ends, and counting what comes after it.
-ghost use Rattle.std.specs.Prelude.{◌+◌, ◌≤◌, length};
+ghost use Rattle.std.specs.Prelude.{◌≡◌, ◌+◌, ◌^◌, ◌<◌, ◌≤◌, ℕ, List, length, take, drop, IfOk, IfSome, OnOk, OnErr};
+ghost use Rattle.std.specs.Io.{ReadsAtMost};
+ghost use Rattle.std.specs.Io.KnownBytes.{Consumes, Keeps, IsAtEnd};
 
-use std::io::Read;
+use std::io::{Error, ErrorKind, Read, Result};
 
-// How many bytes stand at the start of the buffer, and whether a read failed.
-#[derive(Clone, Copy)]
-pub struct Filled {
-    pub length: usize,
-    pub failed: bool,
-}
-
-// How many bytes the input had, and whether a read failed.
-#[derive(Clone, Copy)]
-pub struct Taken {
-    pub total: u64,
-    pub failed: bool,
-}
-
-fn read_once<R: Read>(from: &mut R, buf: &mut [u8]) -> Filled
-    ensures { result.length ≤ length buf.old }
+fn read_from<R: Read>(from: &mut R, buf: &mut [u8], at: usize) -> Result<usize>
+    requires { at < length buf.old }
+    ensures front { take at buf.new ≡ take at buf.old }
+    ensures fits { IfOk result (λ n. at + n ≤ length buf.new) }
+    ensures bytes { IfOk result (λ n. Consumes (R.remaining from.old) (R.remaining from.new)
+        (take n (drop at buf.new))) }
+    ensures end { IfOk result (λ n. n ≡ 0 → IsAtEnd (R.remaining from.new)) }
+    ensures err { OnErr result (Keeps (R.remaining from.old) (R.remaining from.new)) }
 {
-    match from.read(buf) {
-        Ok(n) => Filled {
-            length: n,
-            failed: false,
-        },
-        Err(_) => Filled {
-            length: 0,
-            failed: true,
-        },
-    }
+    from.read(&mut buf[at..])
 }
 
-fn read_from<R: Read>(from: &mut R, buf: &mut [u8], at: usize) -> Filled
-    requires { at ≤ length buf.old }
-    ensures { at + result.length ≤ length buf.old }
+// Reads until the buffer is full or the input ends, and answers how many bytes stand at its start. What was read before a failure stands there too.
+pub fn fill<R: Read>(from: &mut R, buf: &mut [u8]) -> Result<usize>
+    ensures bound { ReadsAtMost result buf.new }
+    ensures bytes { IfOk result (λ n. Consumes (R.remaining from.old) (R.remaining from.new)
+        (take n buf.new)) }
+    ensures end { IfOk result (λ n. n < length buf.new → IsAtEnd (R.remaining from.new)) }
+    ensures err { OnErr result ((n : ℕ) × (n ≤ length buf.new) × Consumes (R.remaining from.old) (R.remaining from.new) (take n buf.new)) }
 {
-    read_once(from, &mut buf[at..])
-}
-
-// Reads until the buffer is full, the input ends or a read fails.
-pub fn fill<R: Read>(from: &mut R, buf: &mut [u8]) -> Filled
-    ensures { result.length ≤ length buf.new }
-{
+    // not a slice that shrinks: the loop's facts would have no name for the bytes that it has passed, so `bytes` could not be kept
     let mut at: usize = 0;
     while at < buf.len() {
-        let more = read_from(&mut *from, &mut *buf, at);
-        if more.failed {
-            return Filled {
-                length: at,
-                failed: true,
-            };
+        let n = read_from(&mut *from, &mut *buf, at)?;
+        if n == 0 {
+            break;
         }
-        if more.length == 0 {
-            return Filled {
-                length: at,
-                failed: false,
-            };
-        }
-        at += more.length;
+        at += n;
     }
-    Filled {
-        length: at,
-        failed: false,
-    }
+    Ok(at)
 }
 
-// A proved loop has to end, and nothing says that an input does: it counts its turns down, from a number that no run uses up.
-const TURNS: u64 = 140737488355328;
+// A proved loop has to end, and nothing says that an input does: it takes its turns, up to a number that no run uses up.
+const TURNS: u64 = 1 << 47;
 
-fn count_rest<R: Read>(from: &mut R) -> Taken
-    ensures { result.total ≤ 9223372036854775808 }
+fn count_rest<R: Read>(from: &mut R) -> Result<u64>
+    ensures bound { IfOk result (λ n. n ≤ 2 ^ 63) }
+    ensures bytes { IfOk result (λ n. (rest : List ℕ) × (length rest ≡ n)
+        × Consumes (R.remaining from.old) (R.remaining from.new) rest) }
+    ensures end { OnOk result (IsAtEnd (R.remaining from.new)) }
 {
-    let mut space = io::large_buffer();
-    let mut turns = TURNS;
+    let mut space = [0u8; 65536];
     let mut total: u64 = 0;
-    while turns > 0 {
-        let more = read_once(&mut *from, &mut space);
-        if more.failed {
-            return Taken {
-                total,
-                failed: true,
-            };
+    // not `io::copy` into a sink: it tries an interrupted read again, and here that is a failure
+    for _ in 0..TURNS {
+        let n = from.read(&mut space)?;
+        if n == 0 {
+            return Ok(total);
         }
-        if more.length == 0 {
-            return Taken {
-                total,
-                failed: false,
-            };
-        }
-        total += more.length as u64;
-        turns -= 1;
+        total += n as u64;
     }
-    Taken {
-        total,
-        failed: true,
-    }
+    Err(Error::new(ErrorKind::TimedOut, "the input does not end"))
 }
 
 // Keeps the start of the input in the buffer and counts all of it.
-pub fn take_in<R: Read>(from: &mut R, buf: &mut [u8]) -> Taken
-    ensures { result.total ≤ length buf.old + 9223372036854775808 }
+pub fn take_in<R: Read>(from: &mut R, buf: &mut [u8]) -> Result<u64>
+    ensures bound { IfOk result (λ n. n ≤ length buf.old + 2 ^ 63) }
+    ensures total { IfOk result (λ n. IfSome (R.remaining from.old) (λ all. n ≡ length all)) }
+    ensures kept { IfOk result (λ n. IfSome (R.remaining from.old)
+        (λ all. take n buf.new ≡ take (length buf.new) all)) }
+    ensures end { OnOk result (IsAtEnd (R.remaining from.new)) }
 {
-    let start = fill(&mut *from, &mut *buf);
-    let kept = start.length as u64;
-    if start.failed {
-        return Taken {
-            total: kept,
-            failed: true,
-        };
+    let kept = fill(&mut *from, &mut *buf)?;
+    if kept < buf.len() {
+        return Ok(kept as u64);
     }
-    if start.length < buf.len() {
-        return Taken {
-            total: kept,
-            failed: false,
-        };
-    }
-    let rest = count_rest(from);
-    Taken {
-        total: kept + rest.total,
-        failed: rest.failed,
-    }
+    let rest = count_rest(from)?;
+    Ok(kept as u64 + rest)
 }

@@ -1,45 +1,56 @@
 // Answers the requests on standard input, a line for each, until the input ends.
 #![tactic(auto)]
 
-ghost use Rattle.std.specs.Prelude.{◌≡◌, length};
+ghost use Rattle.std.specs.Prelude.{◌≡◌, ◌++◌, length, take, IfOk};
+ghost use Rattle.std.specs.Io.KnownBytes.{Consumes};
+ghost use Rattle.io.specs.Counts.{IsPrefixLen};
 
-use std::io::Read;
+use input::Stream;
+use std::io::{Read, Result};
 
-// Room for the longest line: 65,536 bytes in hex, and what stands before them.
-fn blank_page() -> [u8; 131328]
-    ensures { 131328 ≡ length result }
+// Reads a header and the payload that it announces, and answers how many bytes there are of each.
+fn read_request<R: Read>(
+    from: &mut R,
+    header: &mut [u8],
+    payload: &mut [u8],
+) -> Result<(usize, usize)>
+    requires { 65536 ≡ length payload.old }
+    ensures header { IfOk result (λ n. IsPrefixLen n.0 header.new) }
+    ensures payload { IfOk result (λ n. IsPrefixLen n.1 payload.new) }
+    ensures bytes { IfOk result (λ n. Consumes (R.remaining from.old) (R.remaining from.new)
+        (take n.0 header.new ++ take n.1 payload.new)) }
 {
-    [0; 131328]
+    let h = input::fill(&mut *from, &mut *header)?;
+    let n = requests::payload_length(&header[..h]);
+    let p = input::fill(from, &mut payload[..n])?;
+    Ok((h, p))
 }
 
 // Reads a request, writes its line, and answers whether to go on.
 fn answer_one<R: Read>(rt: &HostRuntime, from: &mut R, out: &mut [u8]) -> bool {
     let mut header = [0u8; 5];
-    let mut space = io::large_buffer();
-    let start = input::fill(&mut *from, &mut header);
-    let h = start.length;
-    let n = requests::payload_length(&header[..h]);
-    let rest = input::fill(&mut *from, &mut space[..n]);
-    let p = rest.length;
-    if start.failed | rest.failed {
-        input::write_all(rt, input::STDERR, b"cannot read the requests\n");
+    let mut payload = [0u8; 65536];
+    let Ok((h, p)) = read_request(from, &mut header, &mut payload) else {
+        let _ = input::write_all(rt, Stream::Error, b"cannot read the requests\n");
         return false;
-    }
-    let r = requests::put_reply(&mut *out, &header[..h], &space[..p]);
+    };
+    let r = requests::put_reply(&mut *out, &header[..h], &payload[..p]);
     let length = r.length;
-    if !input::write_all(rt, input::STDOUT, &out[..length]) {
-        input::write_all(rt, input::STDERR, b"cannot write the answers\n");
+    if input::write_all(rt, Stream::Output, &out[..length]).is_err() {
+        let _ = input::write_all(rt, Stream::Error, b"cannot write the answers\n");
         return false;
     }
     !r.last
 }
 
-// A proved loop has to end, and nothing says that the requests do: it counts its turns down, from a number that no run uses up.
+// A proved loop has to end, and nothing says that the requests do: it takes its turns, up to a number that no run uses up.
 fn main(rt: HostRuntime) {
     let mut from = rt.stdin();
-    let mut page = blank_page();
-    let mut turns = u64::MAX;
-    while turns > 0 && answer_one(&rt, &mut from, &mut page) {
-        turns -= 1;
+    // room for the longest line: 65,536 bytes in hex, and what stands before them
+    let mut page = [0u8; 131328];
+    for _ in 0..u64::MAX {
+        if !answer_one(&rt, &mut from, &mut page) {
+            break;
+        }
     }
 }

@@ -2,28 +2,40 @@
 // do, on standard error.
 #![tactic(auto)]
 
-ghost use Rattle.std.specs.Prelude.{◌≡◌, length};
+ghost use Rattle.std.specs.Prelude.{true, ◌≡◌, ◌≤◌, length, IfOk, IfSome};
+ghost use Rattle.text.specs.Page.{page, Wrote};
+ghost use Rattle.verdict.specs.Printed.{printed};
 
-// Room for the longest listing.
-fn blank_page() -> [u8; 262144]
-    ensures { 262144 ≡ length result }
+use input::Stream;
+use std::io::{Read, Result};
+use verdict::Verdict;
+
+// Puts what is printed of a capture on the page; the capture is all that the reader has.
+fn put_printed<R: Read>(from: &mut R, out: &mut [u8]) -> Result<Verdict>
+    ensures agreed { IfOk result (λ v. v.agreed ≡ true) }
+    ensures within { IfOk result (λ v. v.length ≤ length out.new) }
+    ensures writes { IfOk result (λ v. IfSome (R.remaining from.old)
+        (λ capture. Wrote (page out.old 0) (printed capture) (page out.new v.length))) }
 {
-    [0; 262144]
+    let mut kept = [0u8; 65536];
+    let total = input::take_in(from, &mut kept)?;
+    Ok(verdict::replay_by_both(&kept, total, out))
 }
 
 fn main(rt: HostRuntime) {
-    let mut kept = io::large_buffer();
-    let mut from = rt.stdin();
-    let taken = input::take_in(&mut from, &mut kept);
-    if taken.failed {
-        input::write_all(&rt, input::STDERR, b"cannot read the capture\n");
+    // room for the longest listing
+    let mut page = [0u8; 262144];
+    let Ok(v) = put_printed(&mut rt.stdin(), &mut page) else {
+        let _ = input::write_all(&rt, Stream::Error, b"cannot read the capture\n");
         return;
-    }
-    let mut page = blank_page();
-    let v = verdict::replay_by_both(&kept, taken.total, &mut page);
+    };
     let n = v.length;
-    let stream = verdict::stream(v.agreed);
-    if !input::write_all(&rt, stream, &page[..n]) {
-        input::write_all(&rt, input::STDERR, b"cannot write the listing\n");
+    let stream = if verdict::stream(v.agreed) == 1 {
+        Stream::Output
+    } else {
+        Stream::Error
+    };
+    if input::write_all(&rt, stream, &page[..n]).is_err() {
+        let _ = input::write_all(&rt, Stream::Error, b"cannot write the listing\n");
     }
 }

@@ -2,6 +2,8 @@
 ghost use Rattle.std.specs.Prelude.{◌≡◌, ◌++◌, ◌≤◌, length};
 ghost use Rattle.text.specs.Page.{page, Wrote};
 
+use input::Stream;
+
 // Room for the longest line, and for all that a call is asked by.
 pub(crate) fn blank_page() -> [u8; 512]
     ensures { 512 ≡ length result }
@@ -13,11 +15,11 @@ pub(crate) fn blank_page() -> [u8; 512]
 pub(crate) fn say(rt: &HostRuntime, title: &[u8], how: &[u8], page: &[u8], n: usize)
     requires { n ≤ length page.now }
 {
-    let a = input::write_all(rt, input::STDOUT, title);
-    let b = input::write_all(rt, input::STDOUT, how);
-    let c = input::write_all(rt, input::STDOUT, &page[..n]);
-    if !(a & b & c) {
-        input::write_all(rt, input::STDERR, b"cannot write the line\n");
+    let a = input::write_all(rt, Stream::Output, title);
+    let b = input::write_all(rt, Stream::Output, how);
+    let c = input::write_all(rt, Stream::Output, &page[..n]);
+    if a.is_err() | b.is_err() | c.is_err() {
+        let _ = input::write_all(rt, Stream::Error, b"cannot write the line\n");
     }
 }
 

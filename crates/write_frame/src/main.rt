@@ -2,54 +2,45 @@
 // standard error, and nothing of its frame is written.
 #![tactic(auto)]
 
-ghost use Rattle.std.specs.Prelude.{◌≡◌, ◌+◌, ◌≤◌, length};
+ghost use Rattle.std.specs.Prelude.{◌≡◌, ◌+◌, ◌<◌, ◌≤◌, length, take, drop, IfOk};
+ghost use Rattle.std.specs.Io.{ReadsAtMost};
+ghost use Rattle.std.specs.Io.KnownBytes.{Consumes, IsAtEnd};
+ghost use Rattle.orders.specs.Order.{order_size};
 
-use input::Filled;
-use std::io::Read;
+use input::Stream;
+use std::io::{Read, Result};
 
-// Room for the longest order: 4 bytes, and for each input a length, a header and 255 bytes of body.
-fn blank_order() -> [u8; 1032]
-    ensures { 1032 ≡ length result }
-{
-    [0; 1032]
-}
-
-// Room for the longest frame, of 4,096 records.
-fn blank_page() -> [u8; 20480]
-    ensures { 20480 ≡ length result }
-{
-    [0; 20480]
-}
-
-fn fill_between<R: Read>(from: &mut R, order: &mut [u8], have: usize, want: usize) -> Filled
+fn fill_between<R: Read>(from: &mut R, order: &mut [u8], have: usize, want: usize) -> Result<usize>
     requires { (have ≤ want) × (want ≤ length order.old) }
-    ensures { have + result.length ≤ want }
+    ensures front { take have order.new ≡ take have order.old }
+    ensures fits { IfOk result (λ n. have + n ≤ want) }
+    ensures bytes { IfOk result (λ n. Consumes (R.remaining from.old) (R.remaining from.new)
+        (take n (drop have order.new))) }
+    ensures end { IfOk result (λ n. n ≡ 0 → have < want → IsAtEnd (R.remaining from.new)) }
 {
     input::fill(from, &mut order[have..want])
 }
 
 // Reads as much as one order has, or what is left of the input.
-fn read_order<R: Read>(from: &mut R, order: &mut [u8]) -> Filled
+fn read_order<R: Read>(from: &mut R, order: &mut [u8]) -> Result<usize>
     requires { length order.old ≡ 1032 }
-    ensures { result.length ≤ length order.new }
+    ensures bound { ReadsAtMost result order.new }
+    ensures bytes { IfOk result (λ n. Consumes (R.remaining from.old) (R.remaining from.new)
+        (take n order.new)) }
+    ensures end { IfOk result (λ n. n < order_size (take n order.new) → IsAtEnd (R.remaining from.new)) }
 {
+    // how far the order goes is known only from what was read of it, so no slice or range can be walked
     let mut have: usize = 0;
     let mut want = orders::order_size(b"");
     while have < want {
-        let more = fill_between(&mut *from, &mut *order, have, want);
-        if more.failed | (more.length == 0) {
-            return Filled {
-                length: have,
-                failed: more.failed,
-            };
+        let n = fill_between(&mut *from, &mut *order, have, want)?;
+        if n == 0 {
+            break;
         }
-        have += more.length;
+        have += n;
         want = orders::order_size(&order[..have]);
     }
-    Filled {
-        length: have,
-        failed: false,
-    }
+    Ok(have)
 }
 
 // Reads the order for frame k, writes what is said to it, and answers whether to go on.
@@ -62,20 +53,18 @@ fn answer_one<R: Read>(
 ) -> bool
     requires { length order.old ≡ 1032 }
 {
-    let got = read_order(from, &mut *order);
-    if got.failed {
-        input::write_all(rt, input::STDERR, b"cannot read the orders\n");
+    let Ok(n) = read_order(from, &mut *order) else {
+        let _ = input::write_all(rt, Stream::Error, b"cannot read the orders\n");
         return false;
-    }
-    let n = got.length;
+    };
     let said = orders::answer(&mut *page, &order[..n], k);
     let length = said.length;
     if !said.written {
-        input::write_all(rt, input::STDERR, &page[..length]);
+        let _ = input::write_all(rt, Stream::Error, &page[..length]);
         return false;
     }
-    if !input::write_all(rt, input::STDOUT, &page[..length]) {
-        input::write_all(rt, input::STDERR, b"cannot write the capture\n");
+    if input::write_all(rt, Stream::Output, &page[..length]).is_err() {
+        let _ = input::write_all(rt, Stream::Error, b"cannot write the capture\n");
         return false;
     }
     true
@@ -84,10 +73,13 @@ fn answer_one<R: Read>(
 // A proved loop has to end, and nothing says that the orders do: it counts its frames, up to a number that no run reaches.
 fn main(rt: HostRuntime) {
     let mut from = rt.stdin();
-    let mut order = blank_order();
-    let mut page = blank_page();
-    let mut k: u64 = 0;
-    while k < u64::MAX && answer_one(&rt, &mut from, &mut order, &mut page, k) {
-        k += 1;
+    // room for the longest order: 4 bytes, and for each input a length, a header and 255 bytes of body
+    let mut order = [0u8; 1032];
+    // room for the longest frame, of 4,096 records
+    let mut page = [0u8; 20480];
+    for k in 0..u64::MAX {
+        if !answer_one(&rt, &mut from, &mut order, &mut page, k) {
+            break;
+        }
     }
 }

@@ -1,9 +1,11 @@
--- A turn counts 65,536 bytes at most, so that the turns left bound what is still to come.
-use Rattle.std.proofs.Common.{◌≡◌, ◌+◌, ◌*◌, ◌≤◌, length}
+-- A turn counts 65,536 bytes at most.
+use Rattle.std.proofs.Common.{◌≡◌, ◌*◌, ◌≤◌, ℕ, List, length}
+use Rattle.std.specs.Io.KnownBytes.{Consumes}
 use Rattle.input.proofs.standard.count_rest.Given as goal
 
-abbrev pub invariant-loop-turns : goal.invariant-loop-turns
-invariant-loop-turns g l = (l.total + 65536 * l.turns ≤ 9223372036854775808) × (65536 ≡ length l.space)
-
-abbrev pub decreases-loop-turns : goal.decreases-loop-turns
-decreases-loop-turns g l = l.turns
+abbrev pub invariant-loop : goal.invariant-loop
+invariant-loop g l = record {
+  few : l.total ≤ 65536 * l.counter;
+  same : 65536 ≡ length l.space;
+  bytes : (rest : List ℕ) × (length rest ≡ l.total) × Consumes (g.R.Read.remaining l.initial.from) (g.R.Read.remaining l.from) rest;
+}

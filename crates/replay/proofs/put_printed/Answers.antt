@@ -1,0 +1,38 @@
+use Rattle.std.proofs.Common.{◌≡◌, ◌≤◌, ℕ, Bool, true, false, List, length, take, ltb, Option, None, Some, IfSome, refl, sym, ap, ◌∙◌, arith, rules}
+use lib.Seq.{take-take}
+use borrow.Author.Tests.{ltb-true, ltb-false}
+use Rattle.text.specs.Page.{Page, Wrote}
+use Rattle.text.proofs.Pages.{spelt}
+use Rattle.text.proofs.Room.{within}
+use Rattle.comparison.specs.Both.{kept_length, kept}
+use Rattle.comparison.proofs.Inputs.{kept_long, kept_whole}
+use Rattle.verdict.specs.Printed.{printed}
+use Rattle.verdict.proofs.Whole.{whole_input}
+use Rattle.replay.proofs.put_printed.Goals as goal
+
+-- no more stands for a capture than it has
+few_kept : (n : ℕ) (b : Bool) → ltb 61449 n ≡ b → kept_length n ≤ n
+few_kept n true e = let more = ltb-true _ _ e in omega (arith, more, kept_long n more)
+few_kept n false e = omega (arith, kept_whole n (ltb-false _ _ e))
+
+module _ (buffer whole : List ℕ) (n : ℕ) where
+  kept_start : take n buffer ≡ take (length buffer) whole → kept buffer n ≡ kept (take (length buffer) whole) n
+  kept_start e = sym (take-take (kept_length n) n buffer (few_kept n (ltb 61449 n) refl)) ∙ ap (take (kept_length n)) e
+
+  printed_whole : 65536 ≡ length buffer → n ≡ length whole → take n buffer ≡ take (length buffer) whole → printed (kept buffer n) ≡ printed whole
+  printed_whole room long start =
+      ap printed (kept_start start ∙ ap (λ k. kept (take k whole) n) (sym room) ∙ ap (kept (take 65536 whole)) long) ∙ whole_input whole
+
+-- of a buffer with the start of what a reader had, and of how much that was, the same is printed as of the whole
+of_reader : (known : Option (List ℕ)) (buffer : List ℕ) (n : ℕ) {before after : Page} → 65536 ≡ length buffer
+    → IfSome known (λ whole. n ≡ length whole) → IfSome known (λ whole. take n buffer ≡ take (length buffer) whole)
+    → Wrote before (printed (kept buffer n)) after → IfSome known (λ whole. Wrote before (printed whole) after)
+of_reader None buffer n room long start w = tt
+of_reader (Some whole) buffer n room long start w = spelt w (printed_whole buffer whole n room long start)
+
+pub returns-clause-within : goal.returns-clause-within
+returns-clause-within g c = within c.replay_by_both.ensures.writes
+
+pub returns-clause-writes : goal.returns-clause-writes
+returns-clause-writes g c =
+    let taken = c.in_ok-total.ensures in of_reader _ c.take_in.new.buf _ (search rules) taken.total taken.kept c.replay_by_both.ensures.writes
