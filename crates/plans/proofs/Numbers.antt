@@ -2,11 +2,12 @@
 use mathlib.Core.Bool.{cond}
 use mathlib.Core.Path.{◌≡◌, refl, sym, ap, ◌∙◌}
 use Prim.Native.Nat.{ℕ}
+use native.Mathlib.Omega.{arith}
 use lib.Dec.{eqb}
 use Rattle.std.specs.Prelude.{Result, Ok, Err}
 use Rattle.plans.specs.declared.refusal.Refusal.{Refusal}
 use Rattle.plans.specs.declared.refusal.Refusal.TheVariants.{OffLimits, HeaderInactive, BodyWrong, TooLate, NoRoom}
-use Rattle.plans.specs.Refused.{refused_as, NumberSettles}
+use Rattle.plans.specs.Refused.{number_of, refused_as, NumberSettles}
 
 said_by : ℕ → Result (Unit {0}) Refusal
 said_by n =
@@ -28,3 +29,11 @@ back (Err NoRoom) = refl
 
 pub number_settles : NumberSettles
 number_settles a b e = sym (back a) ∙ ap said_by e ∙ back b
+
+-- no refusal has the number that says that nothing is refused
+pub some_number : (refusal : Refusal) → number_of refusal ≡ 0 → ⊥
+some_number OffLimits e = omega (arith, e)
+some_number HeaderInactive e = omega (arith, e)
+some_number BodyWrong e = omega (arith, e)
+some_number TooLate e = omega (arith, e)
+some_number NoRoom e = omega (arith, e)
