@@ -68,12 +68,13 @@ fn answer_one<R: Read>(
         return false;
     }
     let n = got.length;
-    let said = orders::answer(&mut *page, &order[..n], k);
-    let length = said.length;
-    if !said.written {
-        input::write_all(rt, input::STDERR, &page[..length]);
-        return false;
-    }
+    let length = match orders::answer(&mut *page, &order[..n], k) {
+        Ok(length) => length,
+        Err(last) => {
+            input::write_all(rt, input::STDERR, &page[..last.length]);
+            return false;
+        }
+    };
     if !input::write_all(rt, input::STDOUT, &page[..length]) {
         input::write_all(rt, input::STDERR, b"cannot write the capture\n");
         return false;
