@@ -52,7 +52,7 @@ pub fn answer(out: &mut [u8], order: &[u8], k: u64) -> Result<usize, LastLine>
     }
     let plan = order::plan_in(order);
     match frames::write_frame(&mut *out, &plan) {
-        Ok(()) => Ok(5 * usize::from(plan.cycles)),
+        Ok(()) => Ok(plan.size()),
         Err(refusal) => {
             let length = put_refused(out, refusal, k);
             Err(LastLine { length })

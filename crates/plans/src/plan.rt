@@ -1,5 +1,6 @@
 // What a frame is to hold, and what is refused of it, known before the first byte is written.
-ghost use Rattle.std.specs.Prelude.{◌≡◌, ◌+◌};
+ghost use Rattle.std.specs.Prelude.{◌≡◌, ◌+◌, ◌*◌};
+ghost use Rattle.plans.specs.Plan.{te};
 ghost use Rattle.plans.specs.Refusal.{off_limits, header_inactive, body_wrong, too_late, in_some, write_refusal};
 ghost use Rattle.plans.specs.Meant.{meant, cells_of};
 ghost use Rattle.plans.specs.Refused.{refused_as};
@@ -19,7 +20,7 @@ fn off_limits(gap: u8, cycles: u16) -> bool
     ensures { result ≡ off_limits gap cycles }
 {
     let shortest = u16::from(gap) + 2;
-    ((gap < 1) | (16 < gap)) | ((cycles < shortest) | (4096 < cycles))
+    !(1..=16).contains(&gap) || !(shortest..=4096).contains(&cycles)
 }
 
 fn header_inactive(cell: &[u8]) -> bool
@@ -31,6 +32,7 @@ fn header_inactive(cell: &[u8]) -> bool
     }
 }
 
+// A body of 64 bytes has a header before it.
 fn body_wrong(cell: &[u8]) -> bool
     ensures { result ≡ body_wrong cell.now }
 {
@@ -69,6 +71,13 @@ impl Plan<'_> {
         self.cells.iter().any(|cell| too_late(gap, cycles, cell))
     }
 
+    // How many bytes the frame's records have.
+    pub fn size(&self) -> usize
+        ensures { result ≡ 5 * te (meant self.now) }
+    {
+        5 * usize::from(self.cycles)
+    }
+
     // The first refusal that applies, for a buffer of `room` bytes.
     #[tactic(auto, unfolding(crate::specs::Refusal::write_refusal))]
     pub fn check(&self, room: usize) -> Result<(), Refusal>
@@ -86,7 +95,7 @@ impl Plan<'_> {
         if self.some_late() {
             return Err(Refusal::TooLate);
         }
-        if room < 5 * usize::from(self.cycles) {
+        if room < self.size() {
             return Err(Refusal::NoRoom);
         }
         Ok(())

@@ -1,4 +1,4 @@
-use Rattle.std.proofs.Common.{ap, ◌∙◌, refl, length, sym, rules}
+use Rattle.std.proofs.Common.{ap, ◌∙◌, ◌*◌, refl, length, sym, rules}
 use borrow.Author.Tests.{tests, eqb-false}
 use Rattle.plans.specs.Plan.{Plan, te}
 use Rattle.plans.specs.Refusal.{write_refusal}
@@ -28,7 +28,7 @@ returns-in-Ok c =
     let same = c.plan_in-plan.ensures in
     let w = c.in-Ok.ensures in
     let number = w.number ∙ ap (λ (p : Plan). write_refusal p (length a.out.now)) same in
-    let e = done a.order.now a.k a.out.now some c.order_size.ensures.0 c.if-order-order_size.false (number, w.writes ∙ ap (λ (p : Plan). frame_writes p a.out.now) same) refl (c.from.ensures ∙ ap te same) in
+    let e = done a.order.now a.k a.out.now some c.order_size.ensures.0 c.if-order-order_size.false (number, w.writes ∙ ap (λ (p : Plan). frame_writes p a.out.now) same) refl (c.size.ensures ∙ ap (λ (p : Plan). 5 * te p) same) in
     record { written = e.0; text = e.1 }
 
 pub returns-in-Err : goal.returns-in-Err
