@@ -7,18 +7,18 @@ ghost use Rattle.call_frames.specs.Calls.{asks_frame, write_text, write_line, re
 pub fn asks_frame(payload: &[u8]) -> bool
     ensures { result ≡ asks_frame payload.now }
 {
-    if payload.len() < 4 {
-        return false;
-    }
-    orders::order_size(&payload[4..]) == payload.len() - 4
+    payload
+        .get(4..)
+        .is_some_and(|order| orders::order_size(order) == order.len())
 }
 
 fn put_write_into(out: &mut [u8], payload: &[u8], buffer: &mut [u8]) -> usize
     requires { 4 ≤ length payload.now }
     ensures { Wrote (page out.old 0) (write_text payload.now buffer.old) (page out.new result) }
 {
-    let number = orders::write_order(&mut *buffer, &payload[4..]);
-    parts::put_buffer(out, number as u64, buffer)
+    let refusal = orders::write_order(&mut *buffer, &payload[4..]).err();
+    let number = refusal.map_or(0, |refusal| refusal.number());
+    parts::put_buffer(out, u64::from(number), buffer)
 }
 
 pub fn put_write(out: &mut [u8], payload: &[u8]) -> usize

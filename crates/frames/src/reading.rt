@@ -1,31 +1,36 @@
 // The cells in a frame's records.
 ghost use Rattle.std.specs.Prelude.{◌≡◌, length, ◌-◌, ◌≤◌};
 ghost use Rattle.text.specs.Page.{page, Wrote};
+ghost use Rattle.places.specs.Capture.{inputs_in};
 ghost use Rattle.frames.specs.Reading.{sent_by, sent_from, rows_sent, from_header, column_of, as_cell, cell_in, cell_writes};
+
+use fabric::Inputs;
+
+fn inputs_at(frame: &[u8], k: usize) -> Inputs
+    ensures { result ≡ inputs_in frame.now k }
+{
+    records::inputs_from(places::record_at(frame, k))
+}
 
 // The first record in which some input sends an active bit, by which a waiting fabric would route; or the number of records.
 fn header_record(frame: &[u8]) -> usize
     ensures { from_header (rows_sent frame.now 0) ≡ rows_sent frame.now result }
 {
     let n = frame.len() / 5;
-    let mut k: usize = 0;
-    while k < n {
-        let i = records::inputs_from(places::record_at(frame, k));
-        let bytes = i.bytes;
-        if routing::routes(true, bytes) {
+    for k in 0..n {
+        let i = inputs_at(frame, k);
+        if routing::routes(true, i.bytes) {
             return k;
         }
-        k += 1;
     }
-    k
+    n
 }
 
 fn sent_at(frame: &[u8], k: usize, input: usize) -> u8
     ensures { result ≡ sent_by frame.now input k }
 {
-    let i = records::inputs_from(places::record_at(frame, k));
-    let bytes = i.bytes;
-    image::byte_at(&bytes, input)
+    let i = inputs_at(frame, k);
+    image::byte_at(&i.bytes, input)
 }
 
 // The record behind the cell whose header would be in record `at`; `at` itself where there is no cell.
@@ -35,24 +40,20 @@ fn cell_end(frame: &[u8], at: usize, input: usize) -> usize
     if sent_at(frame, at, input) % 2 != 1 {
         return at;
     }
-    let mut end = frame.len() / 5;
-    while at < end {
-        if sent_at(frame, end - 1, input) != 0 {
-            return end;
+    for k in (at..frame.len() / 5).rev() {
+        if sent_at(frame, k, input) != 0 {
+            return k + 1;
         }
-        end -= 1;
     }
-    end
+    at
 }
 
 fn put_sent(out: &mut [u8], frame: &[u8], at: usize, end: usize, input: usize) -> usize
     ensures { Wrote (page out.old 0) (sent_from frame.now input at (end - at)) (page out.new result) }
 {
     let mut next: usize = 0;
-    let mut k = at;
-    while k < end {
+    for k in at..end {
         next = text::put_byte(&mut *out, next, sent_at(frame, k, input));
-        k += 1;
     }
     next
 }

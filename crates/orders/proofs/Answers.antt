@@ -51,9 +51,9 @@ module _ (order : List ℕ) (k : ℕ) (buffer : List ℕ) where
           ap (λ (x : ℕ). as_line (line_about (refused_text x) k)) n ∙ rw (ne_eqb _ _ some, le-ltb _ _ all, ne_eqb _ _ (λ z. h (n ∙ z))) in
           says (as_line (line_about (refused_text number) k)) same (subst (λ (l : List ℕ). Wrote (page l 0) (line_about (refused_text number) k) q) stays put)
 
-      pub done : {cycles : ℕ} → number ≡ 0 → cycles ≡ order_cycles order → Says true (page after (5 * cycles))
+      pub done : {bytes : ℕ} → number ≡ 0 → bytes ≡ 5 * order_cycles order → Says true (page after bytes)
       unfolding answer_to
       done z e =
           let same : as_records (frame_records (plan_of order)) ≡ answer = rw (ne_eqb _ _ some, le-ltb _ _ all, eq-eqb _ _ (sym wrote.0 ∙ z)) in
           says (as_records (frame_records (plan_of order))) same
-          (subst (λ (c : ℕ). Wrote (page buffer 0) (frame_records (plan_of order)) (page after (5 * c))) (sym e) (frame_stands (plan_of order) buffer wrote.0 z wrote.1))
+          (subst (λ (n : ℕ). Wrote (page buffer 0) (frame_records (plan_of order)) (page after n)) (sym e) (frame_stands (plan_of order) buffer wrote.0 z wrote.1))

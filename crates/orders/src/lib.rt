@@ -6,4 +6,4 @@ mod order;
 mod words;
 
 pub use order::{order_size, write_order};
-pub use words::{Said, answer};
+pub use words::{LastLine, answer};

@@ -1,64 +1,87 @@
 // An order's bytes, and the frame that they ask for.
-ghost use Rattle.std.specs.Prelude.{◌≡◌, ◌≤◌, length};
+ghost use Rattle.std.specs.Prelude.{◌≡◌, ◌+◌, ◌≤◌, length, take, drop};
+ghost use Rattle.routing.specs.Four.{four};
+ghost use Rattle.plans.specs.Meant.{meant};
 ghost use Rattle.plans.specs.Refusal.{write_refusal};
+ghost use Rattle.plans.specs.Refused.{refused_as};
 ghost use Rattle.frames.specs.Writing.{frame_writes};
-ghost use Rattle.orders.specs.Order.{order_cycles, order_acks, cell_size, order_size, plan_of};
+ghost use Rattle.orders.specs.Order.{order_cycles, order_acks, cell_size, place_of, order_size, plan_of};
 
-pub(crate) fn cycles_in(order: &[u8]) -> u16
+use plans::{Plan, Refusal};
+
+fn cycles_in(order: &[u8]) -> u16
     ensures { result ≡ order_cycles order.now }
 {
-    256 * image::byte_at(order, 1) as u16 + image::byte_at(order, 2) as u16
+    u16::from_be_bytes([image::byte_at(order, 1), image::byte_at(order, 2)])
 }
 
 fn acks_in(order: &[u8]) -> [bool; 4]
     ensures { result ≡ order_acks order.now }
 {
     let b = image::byte_at(order, 3);
-    [
-        b / 1 % 2 == 1,
-        b / 2 % 2 == 1,
-        b / 4 % 2 == 1,
-        b / 8 % 2 == 1,
-    ]
+    [1, 2, 4, 8].map(|bit| b & bit != 0)
 }
 
 fn cell_size(order: &[u8], at: usize) -> usize
     ensures { (result ≡ cell_size order.now at) × (result ≤ 256) }
 {
     let n = image::byte_at(order, at);
-    if n == 0 { 0 } else { n as usize + 1 }
+    if n == 0 { 0 } else { usize::from(n) + 1 }
+}
+
+// The byte behind the cell whose body's length stands in byte `at`.
+fn next_place(order: &[u8], at: usize) -> usize
+    requires { at ≤ 775 }
+    ensures { (result ≡ at + 1 + cell_size order.now at) × (result ≤ at + 257) }
+{
+    at + 1 + cell_size(order, at)
+}
+
+// The cell whose body's length stands in byte `at`; of bytes that are missing there are none in it.
+fn cell_at(order: &[u8], at: usize) -> &[u8]
+    ensures { result.now ≡ take (cell_size order.now at) (drop (at + 1) order.now) }
+{
+    if at < order.len() {
+        text::part(order, at + 1, cell_size(order, at))
+    } else {
+        &[]
+    }
+}
+
+// The bytes in which the lengths of the bodies of inputs 0..3 stand.
+fn places(order: &[u8]) -> [usize; 4]
+    ensures places { result ≡ four (place_of order.now) }
+    ensures early { place_of order.now 3 ≤ 775 }
+{
+    let second = next_place(order, 4);
+    let third = next_place(order, second);
+    [4, second, third, next_place(order, third)]
 }
 
 // How many bytes an order has, from its first bytes; as long as some are missing it may turn out to have more.
 pub fn order_size(order: &[u8]) -> usize
     ensures { (result ≡ order_size order.now) × (result ≤ 1032) }
 {
-    let place1 = 5 + cell_size(order, 4);
-    let place2 = place1 + 1 + cell_size(order, place1);
-    let place3 = place2 + 1 + cell_size(order, place2);
-    place3 + 1 + cell_size(order, place3)
+    let places = places(order);
+    next_place(order, places[3])
 }
 
-// Writes the frame that an order asks for, or refuses it by its number; of bytes that are missing there are none in a cell.
-pub fn write_order(out: &mut [u8], order: &[u8]) -> u8
-    ensures number { result ≡ write_refusal (plan_of order.now) (length out.old) }
+// The frame that an order asks for.
+pub(crate) fn plan_in(order: &[u8]) -> Plan<'_>
+    ensures { meant result ≡ plan_of order.now }
+{
+    Plan {
+        gap: image::byte_at(order, 0),
+        cycles: cycles_in(order),
+        acks: acks_in(order),
+        cells: places(order).map(|at| cell_at(order, at)),
+    }
+}
+
+// Writes the frame that an order asks for, or refuses it.
+pub fn write_order(out: &mut [u8], order: &[u8]) -> Result<(), Refusal>
+    ensures number { refused_as result ≡ write_refusal (plan_of order.now) (length out.old) }
     ensures writes { out.new ≡ frame_writes (plan_of order.now) out.old }
 {
-    let size0 = cell_size(order, 4);
-    let place1 = 5 + size0;
-    let size1 = cell_size(order, place1);
-    let place2 = place1 + 1 + size1;
-    let size2 = cell_size(order, place2);
-    let place3 = place2 + 1 + size2;
-    let size3 = cell_size(order, place3);
-    frames::write_frame(
-        out,
-        image::byte_at(order, 0),
-        cycles_in(order),
-        acks_in(order),
-        text::part(order, 5, size0),
-        text::part(order, place1 + 1, size1),
-        text::part(order, place2 + 1, size2),
-        text::part(order, place3 + 1, size3),
-    )
+    frames::write_frame(out, &plan_in(order))
 }

@@ -2,15 +2,17 @@
 ghost use Rattle.std.specs.Prelude.{◌≡◌, length};
 ghost use Rattle.text.specs.Page.{page, Wrote};
 ghost use Rattle.text.specs.Ascii.{ascii};
+ghost use Rattle.plans.specs.Refused.{number_of};
 ghost use Rattle.orders.specs.Answer.{at_frame, line_about, refused_text, answer_to};
+ghost use Rattle.orders.specs.Said.{written_by, length_by};
 
 use super::order;
+use plans::Refusal;
 
-// How many bytes there are, and whether they are the records of a frame; where they are not, no more orders are answered.
-#[derive(Clone, Copy)]
-pub struct Said {
+// The line after which no more orders are answered, by its length; it is empty where no order was left.
+#[derive(Clone, Copy, PartialEq, Eq)]
+pub struct LastLine {
     pub length: usize,
-    pub written: bool,
 }
 
 fn put_at(out: &mut [u8], place: usize, k: u64) -> usize
@@ -21,11 +23,11 @@ fn put_at(out: &mut [u8], place: usize, k: u64) -> usize
     text::put_byte(out, b, b'\n')
 }
 
-fn put_refused(out: &mut [u8], number: u8, k: u64) -> usize
-    ensures { Wrote (page out.old 0) (line_about (refused_text number) k) (page out.new result) }
+fn put_refused(out: &mut [u8], refusal: Refusal, k: u64) -> usize
+    ensures { Wrote (page out.old 0) (line_about (refused_text (number_of refusal)) k) (page out.new result) }
 {
     let a = text::put_text(&mut *out, 0, b"refused ");
-    let b = text::put_decimal(&mut *out, a, number as u64);
+    let b = text::put_decimal(&mut *out, a, u64::from(refusal.number()));
     put_at(out, b, k)
 }
 
@@ -36,34 +38,24 @@ fn put_cut_short(out: &mut [u8], k: u64) -> usize
     put_at(out, a, k)
 }
 
-// `order` is what could be read of the order for frame k.
-pub fn answer(out: &mut [u8], order: &[u8], k: u64) -> Said
-    ensures written { result.written ≡ (answer_to order.now k (length out.old)).written }
-    ensures text { Wrote (page out.old 0) (answer_to order.now k (length out.old)).text (page out.new result.length) }
+// `order` is what could be read of the order for frame k; answers how many bytes the frame's records have.
+pub fn answer(out: &mut [u8], order: &[u8], k: u64) -> Result<usize, LastLine>
+    ensures written { written_by result ≡ (answer_to order.now k (length out.old)).written }
+    ensures text { Wrote (page out.old 0) (answer_to order.now k (length out.old)).text (page out.new (length_by result)) }
 {
-    if order.len() == 0 {
-        return Said {
-            length: 0,
-            written: false,
-        };
+    if order.is_empty() {
+        return Err(LastLine { length: 0 });
     }
     if order.len() < order::order_size(order) {
         let length = put_cut_short(out, k);
-        return Said {
-            length,
-            written: false,
-        };
+        return Err(LastLine { length });
     }
-    let number = order::write_order(&mut *out, order);
-    if number != 0 {
-        let length = put_refused(out, number, k);
-        return Said {
-            length,
-            written: false,
-        };
-    }
-    Said {
-        length: 5 * order::cycles_in(order) as usize,
-        written: true,
+    let plan = order::plan_in(order);
+    match frames::write_frame(&mut *out, &plan) {
+        Ok(()) => Ok(plan.size()),
+        Err(refusal) => {
+            let length = put_refused(out, refusal, k);
+            Err(LastLine { length })
+        }
     }
 }

@@ -1,2 +1,3 @@
 pub mod Cells
+pub mod Numbers
 pub mod Refusals

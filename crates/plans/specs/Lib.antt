@@ -1,2 +1,4 @@
 pub mod Plan
+pub mod Meant
 pub mod Refusal
+pub mod Refused

@@ -4,6 +4,8 @@
 
 #![tactic(auto)]
 
+mod plan;
 mod refusal;
 
-pub use refusal::write_refusal;
+pub use plan::Plan;
+pub use refusal::Refusal;

@@ -57,12 +57,13 @@ fn answer_one<R: Read>(
         let _ = input::write_all(rt, Stream::Error, b"cannot read the orders\n");
         return false;
     };
-    let said = orders::answer(&mut *page, &order[..n], k);
-    let length = said.length;
-    if !said.written {
-        let _ = input::write_all(rt, Stream::Error, &page[..length]);
-        return false;
-    }
+    let length = match orders::answer(&mut *page, &order[..n], k) {
+        Ok(length) => length,
+        Err(last) => {
+            let _ = input::write_all(rt, Stream::Error, &page[..last.length]);
+            return false;
+        }
+    };
     if input::write_all(rt, Stream::Output, &page[..length]).is_err() {
         let _ = input::write_all(rt, Stream::Error, b"cannot write the capture\n");
         return false;

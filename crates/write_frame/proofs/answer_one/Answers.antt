@@ -3,14 +3,14 @@ use lib.Seq.{length-take-le}
 use Rattle.text.proofs.Room.{within}
 use Rattle.write_frame.proofs.answer_one.Goals as goal
 
-pub slice_bounds-write_all-end-then-not-said : goal.slice_bounds-write_all-end-then-not-said
-slice_bounds-write_all-end-then-not-said g c = within c.answer-said.ensures.text
+pub slice_bounds-write_all-end-in-Err : goal.slice_bounds-write_all-end-in-Err
+slice_bounds-write_all-end-in-Err g c = within c.in-Err.ensures.text
 
-pub slice_bounds-write_all-end-then-not-said-2 : goal.slice_bounds-write_all-end-then-not-said-2
-slice_bounds-write_all-end-then-not-said-2 g c = sym (length-take-le _ c.answer-said.new.out (within c.answer-said.ensures.text))
+pub slice_bounds-write_all-end-in-Err-2 : goal.slice_bounds-write_all-end-in-Err-2
+slice_bounds-write_all-end-in-Err-2 g c = sym (length-take-le _ c.answer.new.out (within c.in-Err.ensures.text))
 
 pub slice_bounds-write_all-end-2 : goal.slice_bounds-write_all-end-2
-slice_bounds-write_all-end-2 g c = within c.answer-said.ensures.text
+slice_bounds-write_all-end-2 g c = within c.in-Ok.ensures.text
 
 pub slice_bounds-write_all-end-3 : goal.slice_bounds-write_all-end-3
-slice_bounds-write_all-end-3 g c = sym (length-take-le _ c.answer-said.new.out (within c.answer-said.ensures.text))
+slice_bounds-write_all-end-3 g c = sym (length-take-le _ c.answer.new.out (within c.in-Ok.ensures.text))

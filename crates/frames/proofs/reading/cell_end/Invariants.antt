@@ -1,8 +1,5 @@
 use Rattle.frames.proofs.Searches.{Trimmed}
 use Rattle.frames.proofs.reading.cell_end.Given as goal
 
-abbrev pub invariant-loop-end : goal.invariant-loop-end
-invariant-loop-end l = Trimmed l.frame l.input l.at l.end
-
-abbrev pub decreases-loop-end : goal.decreases-loop-end
-decreases-loop-end l = l.end
+abbrev pub invariant-loop-k : goal.invariant-loop-k
+invariant-loop-k l = Trimmed l.frame l.input l.at l.k

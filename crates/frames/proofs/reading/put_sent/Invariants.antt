@@ -1,6 +1,4 @@
-use mathlib.Core.Path.{◌≡◌}
-use Prim.Native.Nat.{◌-◌}
-use lib.ListN.{length}
+use Rattle.std.proofs.Common.{◌-◌}
 use Rattle.text.specs.Page.{page}
 use Rattle.text.proofs.Pages.{Ahead}
 use Rattle.frames.specs.Reading.{sent_from}
@@ -8,7 +6,4 @@ use Rattle.frames.proofs.reading.put_sent.Given as goal
 
 abbrev pub invariant-loop-k : goal.invariant-loop-k
 invariant-loop-k l =
-    Ahead (page l.initial.out 0) (sent_from l.frame l.input l.at (l.end - l.at)) (page l.out l.next) (sent_from l.frame l.input l.k (l.end - l.k)) × (length l.out ≡ length l.initial.out)
-
-abbrev pub decreases-loop-k : goal.decreases-loop-k
-decreases-loop-k l = l.end - l.k
+    Ahead (page l.initial.out 0) (sent_from l.frame l.input l.at (l.end - l.at)) (page l.out l.next) (sent_from l.frame l.input l.k (l.end - l.k))

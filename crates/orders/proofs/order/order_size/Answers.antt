@@ -1,15 +1,16 @@
-use native.Mathlib.Omega.{arith}
-use Rattle.orders.proofs.Places.{first_place, next_place}
+use Rattle.std.proofs.Common.{ap, List, ℕ, slice_index_or, ◌≡◌, arith}
+use Rattle.orders.specs.Order.{place_of}
+use Rattle.orders.proofs.Places.{next_place}
 use Rattle.orders.proofs.order.order_size.Goals as goal
+
+pub next_place-requires : goal.next_place-requires
+next_place-requires c =
+    let e = c.places-places.ensures in
+    let last : slice_index_or c.places-places.result 3 0 ≡ place_of c.args.order.now 3 = ap (λ (l : List ℕ). slice_index_or l 3 0) e.places in
+    omega (arith, last, e.early)
 
 pub returns : goal.returns
 returns c =
-    let o = c.args.order.now in
-    let e0 = c.cell_size-place1.ensures in
-    let e1 = c.cell_size.ensures in
-    let e2 = c.cell_size-2.ensures in
-    let e3 = c.cell_size-3.ensures in
-    let p1 = next_place o 0 (first_place o) e0.0 in
-    let p2 = next_place o 1 p1 e1.0 in
-    let p3 = next_place o 2 p2 e2.0 in
-    (next_place o 3 p3 e3.0, omega (arith, e0.1, e1.1, e2.1, e3.1))
+    let e = c.places-places.ensures in
+    let last : slice_index_or c.places-places.result 3 0 ≡ place_of c.args.order.now 3 = ap (λ (l : List ℕ). slice_index_or l 3 0) e.places in
+    let n = c.next_place.ensures in (next_place c.args.order.now 3 last n.0, omega (arith, last, e.early, n.1))

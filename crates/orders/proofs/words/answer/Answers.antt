@@ -1,27 +1,42 @@
+use Rattle.std.proofs.Common.{ap, ◌∙◌, ◌*◌, refl, length, sym, rules}
+use borrow.Author.Tests.{tests, eqb-false}
+use Rattle.plans.specs.Plan.{Plan, te}
+use Rattle.plans.specs.Refusal.{write_refusal}
+use Rattle.plans.proofs.Numbers.{some_number}
+use Rattle.frames.specs.Writing.{frame_writes}
 use Rattle.text.proofs.Pages.{nothing}
 use Rattle.orders.proofs.Answers.{none_left, cut, refused, done}
 use Rattle.orders.proofs.words.answer.Goals as goal
 
-pub returns-then-order-eq0 : goal.returns-then-order-eq0
-returns-then-order-eq0 c =
+pub returns-then-is_empty : goal.returns-then-is_empty
+returns-then-is_empty c =
     let a = c.args in
-    let e = none_left a.order.now a.k a.out.now c.if-order-eq0.true (nothing _) in
+    let e = none_left a.order.now a.k a.out.now (search (rules, tests)) (nothing _) in
     record { written = e.0; text = e.1 }
 
 pub returns-then-order-order_size : goal.returns-then-order-order_size
 returns-then-order-order_size c =
     let a = c.args in
-    let e = cut a.order.now a.k a.out.now c.if-order-eq0.false c.order_size.ensures.0 c.if-order-order_size.true c.put_cut_short-length.ensures in
+    let some = eqb-false _ _ (sym c.is_empty.ensures ∙ c.if-is_empty.false) in
+    let e = cut a.order.now a.k a.out.now some c.order_size.ensures.0 c.if-order-order_size.true c.put_cut_short-length.ensures in
     record { written = e.0; text = e.1 }
 
-pub returns-then-number-ne0 : goal.returns-then-number-ne0
-returns-then-number-ne0 c =
+pub returns-in-Ok : goal.returns-in-Ok
+returns-in-Ok c =
     let a = c.args in
-    let e = refused a.order.now a.k a.out.now c.if-order-eq0.false c.order_size.ensures.0 c.if-order-order_size.false (c.write_order-number.ensures.number, c.write_order-number.ensures.writes) c.if-number-ne0.true c.put_refused-length.ensures in
+    let some = eqb-false _ _ (sym c.is_empty.ensures ∙ c.if-is_empty.false) in
+    let same = c.plan_in-plan.ensures in
+    let w = c.in-Ok.ensures in
+    let number = w.number ∙ ap (λ (p : Plan). write_refusal p (length a.out.now)) same in
+    let e = done a.order.now a.k a.out.now some c.order_size.ensures.0 c.if-order-order_size.false (number, w.writes ∙ ap (λ (p : Plan). frame_writes p a.out.now) same) refl (c.size.ensures ∙ ap (λ (p : Plan). 5 * te p) same) in
     record { written = e.0; text = e.1 }
 
-pub returns : goal.returns
-returns c =
+pub returns-in-Err : goal.returns-in-Err
+returns-in-Err c =
     let a = c.args in
-    let e = done a.order.now a.k a.out.now c.if-order-eq0.false c.order_size.ensures.0 c.if-order-order_size.false (c.write_order-number.ensures.number, c.write_order-number.ensures.writes) c.if-number-ne0.false c.cycles_in.ensures in
+    let some = eqb-false _ _ (sym c.is_empty.ensures ∙ c.if-is_empty.false) in
+    let same = c.plan_in-plan.ensures in
+    let w = c.in-Err.ensures in
+    let number = w.number ∙ ap (λ (p : Plan). write_refusal p (length a.out.now)) same in
+    let e = refused a.order.now a.k a.out.now some c.order_size.ensures.0 c.if-order-order_size.false (number, w.writes ∙ ap (λ (p : Plan). frame_writes p a.out.now) same) (some_number c.in-Err.refusal) c.put_refused-length.ensures in
     record { written = e.0; text = e.1 }

@@ -1,5 +1,8 @@
-use Rattle.text.proofs.Pages.{◌then◌}
+use Rattle.std.proofs.Common.{ap, ◌∙◌}
+use Rattle.text.specs.Digits.{decimal}
+use Rattle.text.proofs.Pages.{◌then◌, spelt}
 use Rattle.orders.proofs.words.put_refused.Goals as goal
 
 pub returns : goal.returns
-returns c = c.put_text-a.ensures then c.put_decimal-b.ensures then c.put_at.ensures
+returns c =
+    c.put_text-a.ensures then spelt c.put_decimal-b.ensures (ap decimal (c.from.ensures ∙ c.number.ensures)) then c.put_at.ensures
