@@ -1,10 +1,9 @@
 // What the lines about a state are made of, and numbers of several bytes.
 ghost use Rattle.std.specs.Prelude.{[], ◌∷◌, ◌≡◌, ◌<◌, ◌≤◌};
 ghost use Rattle.text.specs.Page.{page, Wrote};
-ghost use Rattle.fabric.specs.Cycle.{machine};
 ghost use Rattle.parts.specs.Parts.{word_at, long_at, marked, room_at, bytes_text, state_text, number_text, buffer_text};
 
-use states::State;
+use states::Machine;
 use std::array;
 
 // Four bytes from byte k on, high byte first; bytes that are missing count as 0.
@@ -45,19 +44,10 @@ pub fn put_number(out: &mut [u8], place: usize, n: u64) -> usize
     text::put_byte(out, next, b' ')
 }
 
-pub fn put_state(
-    out: &mut [u8],
-    place: usize,
-    s: State,
-    first: [u8; 4],
-    second: [u8; 4],
-    switched: [u8; 4],
-    heads: [u8; 4],
-) -> usize
-    ensures { Wrote (page out.old place) (state_text (machine s (first ∷ second ∷ switched ∷ heads ∷ []))) (page out.new result) }
+pub fn put_state(out: &mut [u8], place: usize, m: Machine) -> usize
+    ensures { Wrote (page out.old place) (state_text m) (page out.new result) }
 {
-    let bytes = image::image_of(s, first, second, switched, heads);
-    text::put_hex(out, place, &bytes)
+    text::put_hex(out, place, &image::image_of(m))
 }
 
 // Bytes in hex, or a dash where there are none.
