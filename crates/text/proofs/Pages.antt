@@ -6,7 +6,8 @@ use native.Mathlib.Numerals.{add-one}
 use lib.ListN.{length, get_or, set, drop}
 use lib.Seq.{drop-cons}
 use borrow.Author.Tests.{lt-ltb, le-ltb}
-use Rattle.text.specs.Page.{Page, page, put, puts, Wrote}
+use Rattle.text.specs.declared.page.Page.{Page as Sheet}
+use Rattle.text.specs.Page.{Page, page, put, puts, Wrote, seen, Put}
 use Rattle.text.specs.Digits.{hex, hexes}
 
 pub put_there : (bytes : List ℕ) (place b : ℕ) → place < length bytes → Wrote (page bytes place) (b ∷ []) (page (set bytes place b) (place + 1))
@@ -23,33 +24,43 @@ puts_both p [] t = refl
 puts_both p (b ∷ s) t = puts_both (put p b) s t
 
 -- one text, and another after it
-infixl 10 ◌then◌
-pub ◌then◌ : {p q r : Page} {s t : List ℕ} → Wrote p s q → Wrote q t r → Wrote p (s ++ t) r
-◌then◌ {p = p} {s = s} {t = t} first next = record { left = next.left ∙ ap (λ (x : Page). puts x t) first.left ∙ puts_both p s t }
+pub both : {p q r : Page} {s t : List ℕ} → Wrote p s q → Wrote q t r → Wrote p (s ++ t) r
+both {p = p} {s = s} {t = t} first next = record { left = next.left ∙ ap (λ (x : Page). puts x t) first.left ∙ puts_both p s t }
 
 -- the same text, spelt otherwise
-pub spelt : {p q : Page} {s t : List ℕ} → Wrote p s q → s ≡ t → Wrote p t q
-spelt {p = p} w e = record { left = w.left ∙ ap (puts p) e }
+pub other_words : {p q : Page} {s t : List ℕ} → Wrote p s q → s ≡ t → Wrote p t q
+other_words {p = p} w e = record { left = w.left ∙ ap (puts p) e }
+
+-- the same of the code's pages
+infixl 10 ◌then◌
+pub ◌then◌ : {p q r : Sheet} {s t : List ℕ} → Put p s q → Put q t r → Put p (s ++ t) r
+first then next = record { wrote = both first.wrote next.wrote; same = next.same ∙ first.same }
+
+pub spelt : {p q : Sheet} {s t : List ℕ} → Put p s q → s ≡ t → Put p t q
+spelt w e = record { wrote = other_words w.wrote e; same = w.same }
 
 -- nothing to put
-pub nothing : (p : Page) → Wrote p [] p
+pub nothing : (p : Sheet) → Put p [] p
 unfolding puts
-nothing p = record { left = refl }
+nothing p = record { wrote = record { left = refl }; same = refl }
 
 -- What a loop still has to put: `left` after the page q will be `all` after the page p.
-pub record Ahead (p : Page) (all : List ℕ) (q : Page) (left : List ℕ) : Type 0 where
-  pub same : puts p all ≡ puts q left
+pub record Ahead (p : Sheet) (all : List ℕ) (q : Sheet) (left : List ℕ) : Type 0 where
+  pub same_text : puts (seen p) all ≡ puts (seen q) left
+  pub same : q.bytes.ghost_name ≡ p.bytes.ghost_name
 
-pub begun : {p : Page} {all left : List ℕ} → all ≡ left → Ahead p all p left
-begun {p = p} e = record { same = ap (puts p) e }
+pub begun : {p : Sheet} {all left : List ℕ} → all ≡ left → Ahead p all p left
+begun {p = p} e = record { same_text = ap (puts (seen p)) e; same = refl }
 
-pub went_on : {p q r : Page} {all left part rest : List ℕ} → Ahead p all q left → left ≡ part ++ rest → Wrote q part r → Ahead p all r rest
-went_on {q = q} {part = part} {rest = rest} a cut w =
-    record { same = a.same ∙ ap (puts q) cut ∙ sym (puts_both q part rest) ∙ ap (λ (x : Page). puts x rest) (sym w.left) }
+pub went_on : {p q r : Sheet} {all left part rest : List ℕ} → Ahead p all q left → left ≡ part ++ rest → Put q part r → Ahead p all r rest
+went_on {q = q} {part = part} {rest = rest} a cut w = record {
+  same_text = a.same_text ∙ ap (puts (seen q)) cut ∙ sym (puts_both (seen q) part rest) ∙ ap (λ (x : Page). puts x rest) (sym w.wrote.left);
+  same = w.same ∙ a.same;
+}
 
-pub ended : {p q : Page} {all left : List ℕ} → Ahead p all q left → left ≡ [] → Wrote p all q
+pub ended : {p q : Sheet} {all left : List ℕ} → Ahead p all q left → left ≡ [] → Put p all q
 unfolding puts
-ended {q = q} a e = record { left = sym (a.same ∙ ap (puts q) e) }
+ended {q = q} a e = record { wrote = record { left = sym (a.same_text ∙ ap (puts (seen q)) e) }; same = a.same }
 
 pub next_byte : (text : List ℕ) (i : ℕ) → i < length text → drop i text ≡ (get_or text i 0 ∷ []) ++ drop (i + 1) text
 next_byte text i h = drop-cons text i 0 h ∙ ap (λ (j : ℕ). get_or text i 0 ∷ drop j text) (sym (add-one i))

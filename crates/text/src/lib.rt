@@ -11,5 +11,4 @@ mod page;
 
 pub use bytes::part;
 pub use difference::first_difference;
-pub use digits::{put_decimal, put_hex, put_pair};
-pub use page::{put_byte, put_text};
+pub use page::Page;

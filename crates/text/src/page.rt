@@ -1,25 +1,44 @@
-// A page is a lent buffer and the place where the next byte goes; each call hands back the next place.
-ghost use Rattle.std.specs.Prelude.{[], ◌∷◌};
-ghost use Rattle.text.specs.Page.{page, Wrote};
+// A page is lent bytes and the place where the next byte goes.
+ghost use Rattle.std.specs.Prelude.{◌≡◌, [], ◌∷◌, take};
+ghost use Rattle.text.specs.Page.{Put, Blank};
 
-// A page that is full takes no more: its bytes and its place stay.
-pub fn put_byte(out: &mut [u8], place: usize, b: u8) -> usize
-    ensures { Wrote (page out.old place) (b ∷ []) (page out.new result) }
-{
-    if place < out.len() {
-        out[place] = b;
-        place + 1
-    } else {
-        place
-    }
+#[derive(Drop)]
+pub struct Page<'a> {
+    pub bytes: &'a mut [u8],
+    pub place: usize,
 }
 
-pub fn put_text(out: &mut [u8], place: usize, text: &[u8]) -> usize
-    ensures { Wrote (page out.old place) text.now (page out.new result) }
-{
-    let mut next = place;
-    for b in text {
-        next = put_byte(out, next, *b);
+impl<'a> Page<'a> {
+    // A page over these bytes, on which nothing stands yet.
+    pub fn new(bytes: &'a mut [u8]) -> Page<'a>
+        ensures blank { Blank bytes.old result }
+        ensures same { result.bytes.ghost_name ≡ bytes.entry.ghost_name }
+    {
+        Page { bytes, place: 0 }
     }
-    next
+
+    // What stands on it.
+    pub fn text(&self) -> &[u8]
+        ensures { result.now ≡ take self.now.place self.now.bytes.now }
+    {
+        &self.bytes[..self.place.min(self.bytes.len())]
+    }
+
+    // A page that is full takes no more: its bytes and its place stay.
+    pub fn put_byte(&mut self, b: u8)
+        ensures { Put self.old (b ∷ []) self.new }
+    {
+        if self.place < self.bytes.len() {
+            self.bytes[self.place] = b;
+            self.place += 1;
+        }
+    }
+
+    pub fn put_text(&mut self, text: &[u8])
+        ensures { Put self.old text.now self.new }
+    {
+        for b in text {
+            self.put_byte(*b);
+        }
+    }
 }

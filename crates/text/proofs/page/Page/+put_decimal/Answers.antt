@@ -3,7 +3,7 @@ use mathlib.Core.List.{List, [], ◌∷◌}
 use Prim.Native.Nat.{ℕ}
 use Rattle.text.proofs.Pages.{◌then◌, spelt}
 use Rattle.text.proofs.Decimals.{few, many}
-use Rattle.text.proofs.digits.+put_decimal.Goals as goal
+use Rattle.text.proofs.page.Page.+put_decimal.Goals as goal
 
 abbrev digits : ℕ → List ℕ
 digits d = d ∷ []
@@ -13,4 +13,4 @@ returns-then-n-lt10 t c = spelt c.put_byte.ensures (ap digits c.digit.ensures �
 
 pub returns-else-n-lt10 : goal.returns-else-n-lt10
 returns-else-n-lt10 t c =
-    spelt (c.put_decimal-next.ensures then spelt c.put_byte-else-n-lt10.ensures (ap digits c.digit-else-n-lt10.ensures)) (sym (many _ c.if-n-lt10.false))
+    spelt (c.put_decimal.ensures then spelt c.put_byte-else-n-lt10.ensures (ap digits c.digit-else-n-lt10.ensures)) (sym (many _ c.if-n-lt10.false))
