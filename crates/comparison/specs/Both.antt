@@ -1,15 +1,22 @@
 -- A capture of any size through both engines from reset.
-use Rattle.std.specs.Prelude.{cond, List, ℕ, ◌+◌, ◌%◌, ltb, length, take, replicate}
+use Rattle.std.specs.Prelude.{◌≡◌, cond, List, Option, Some, None, ℕ, ◌+◌, ◌%◌, eqb, ltb, length, take, replicate, Result, Ok, Err}
+use Rattle.states.specs.declared.refusal.Refusal.{Refusal}
+use Rattle.states.specs.Refusal.{number_in, place_of}
 use Rattle.fabric.specs.Run.{reset_machine}
 use Rattle.capture.specs.Replay.{replay_of, replay_writes}
-use Rattle.text.specs.declared.difference.Difference.{Difference}
-use Rattle.comparison.specs.declared.both.Both.{Both}
+use Rattle.comparison.specs.declared.both.Both.{Both as Compared}
 use Rattle.comparison.specs.Agreement.{disagreement_of}
 
 -- both engines into a buffer each: where they differ
-abbrev pub both_differ : List ℕ → List ℕ → List ℕ → Difference
+abbrev pub both_differ : List ℕ → List ℕ → List ℕ → Option ℕ
 both_differ capture plain gates =
     disagreement_of (replay_of reset_machine capture (length plain)) (replay_of reset_machine capture (length gates)) (replay_writes reset_machine capture plain) (replay_writes reset_machine capture gates)
+
+-- what the cycle rules hand back as number and index, and where the gates differ
+pub record Both : Type 0 where
+  pub number : ℕ
+  pub index : ℕ
+  pub difference : Option ℕ
 
 abbrev pub both_of : List ℕ → List ℕ → List ℕ → Both
 both_of capture plain gates = record {
@@ -17,6 +24,22 @@ both_of capture plain gates = record {
   index = (replay_of reset_machine capture (length plain)).index;
   difference = both_differ capture plain gates;
 }
+
+-- the code's answer in these words
+abbrev pub place_in : Result Unit Refusal → ℕ
+place_in (Ok a) = 0
+place_in (Err r) = place_of r
+
+abbrev pub told : Compared → Both
+told b = record { number = number_in b.outcome; index = place_in b.outcome; difference = b.difference }
+
+-- The index that is printed with a number: a bad record's with 3, and none with another.
+abbrev pub index_given : ℕ → ℕ → Option ℕ
+index_given number index = cond (eqb number 3) (Some index) None
+
+-- They tell it: two answers that are told alike are the same.
+abbrev pub ToldApart : Type 0
+ToldApart = (b c : Compared) → told b ≡ told c → b ≡ c
 
 abbrev pub zeros : ℕ → List ℕ
 zeros n = replicate n 0

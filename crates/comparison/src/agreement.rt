@@ -1,51 +1,39 @@
 // Where two replays of one capture begin to differ.
-ghost use Rattle.std.specs.Prelude.{◌≡◌};
+ghost use Rattle.std.specs.Prelude.{◌≡◌, is_none};
+ghost use Rattle.text.specs.Differ.{first_difference};
 ghost use Rattle.image.specs.Image.{image_of};
-ghost use Rattle.comparison.specs.Agreement.{ending, is_same, same_end, disagreement_of};
+ghost use Rattle.capture.specs.Replay.{replayed};
+ghost use Rattle.comparison.specs.Agreement.{same_end, disagreement_of};
 
-use capture::Replayed;
-use text::Difference;
+use states::{Machine, Refused};
 
-fn end_image(p: Replayed) -> [u8; 25]
-    ensures { result ≡ image_of (ending p) }
+fn same_image(m: Machine, n: Machine) -> bool
+    ensures { result ≡ is_none (first_difference (image_of m) (image_of n)) }
 {
-    let first = p.first;
-    let second = p.second;
-    let switched = p.switched;
-    let heads = p.heads;
-    image::image_of(p.state, first, second, switched, heads)
+    image::image_of(m) == image::image_of(n)
 }
 
-pub fn is_same(d: Difference) -> bool
-    ensures { result ≡ is_same d }
+fn same_end(p: Result<Machine, Refused>, g: Result<Machine, Refused>) -> bool
+    ensures { result ≡ same_end (replayed p) (replayed g) }
 {
-    match d {
-        Difference::Same => true,
-        Difference::At(k) => false,
+    match (p, g) {
+        (Ok(m), Ok(n)) => same_image(m, n),
+        (Err(r), Err(q)) => r.why == q.why && same_image(r.machine, q.machine),
+        _ => false,
     }
 }
 
-fn same_end(p: Replayed, g: Replayed) -> bool
-    ensures { result ≡ same_end p g }
-{
-    let a = end_image(p);
-    let b = end_image(g);
-    let ends = is_same(text::first_difference(&a, &b));
-    (p.number == g.number) & (p.index == g.index) & ends
-}
-
 // The first record whose answers differ; where only number, index or end state do, the place past the last record.
-pub fn disagreement(p: Replayed, g: Replayed, plain: &[u8], gates: &[u8]) -> Difference
-    ensures { result ≡ disagreement_of p g plain.now gates.now }
+pub fn disagreement(
+    p: Result<Machine, Refused>,
+    g: Result<Machine, Refused>,
+    plain: &[u8],
+    gates: &[u8],
+) -> Option<usize>
+    ensures { result ≡ disagreement_of (replayed p) (replayed g) plain.now gates.now }
 {
     match text::first_difference(plain, gates) {
-        Difference::At(k) => Difference::At(k / 5),
-        Difference::Same => {
-            if same_end(p, g) {
-                Difference::Same
-            } else {
-                Difference::At(plain.len() / 5)
-            }
-        }
+        Some(k) => Some(k / 5),
+        None => (!same_end(p, g)).then_some(plain.len() / 5),
     }
 }

@@ -7,5 +7,5 @@
 mod agreement;
 mod both;
 
-pub use agreement::{disagreement, is_same};
-pub use both::{Both, kept, replay_both, zeros};
+pub use agreement::disagreement;
+pub use both::{Both, kept, replay_both};

@@ -1,11 +1,9 @@
-use Rattle.comparison.proofs.Agreements.{bytes_differ, all_agree, ends_differ}
+use Rattle.std.proofs.Common.{◌∙◌}
+use Rattle.comparison.proofs.Agreements.{bytes_differ, by_ends}
 use Rattle.comparison.proofs.agreement.disagreement.Goals as goal
 
-pub returns-in-At : goal.returns-in-At
-returns-in-At c = bytes_differ _ _ _ _ c.first_difference.ensures c.in-At.is
+pub returns-in-Some : goal.returns-in-Some
+returns-in-Some c = bytes_differ _ _ _ _ c.first_difference.ensures c.in-Some.is
 
-pub returns-then-same_end : goal.returns-then-same_end
-returns-then-same_end c = all_agree _ _ _ _ c.first_difference.ensures c.in-Same.is c.same_end.ensures c.if-same_end.true
-
-pub returns-else-same_end : goal.returns-else-same_end
-returns-else-same_end c = ends_differ _ _ _ _ c.first_difference.ensures c.in-Same.is c.same_end.ensures c.if-same_end.false
+pub returns-in-None : goal.returns-in-None
+returns-in-None c = c.then_some.ensures ∙ by_ends _ _ _ _ c.first_difference.ensures c.in-None.is c.same_end.ensures

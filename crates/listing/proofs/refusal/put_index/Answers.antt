@@ -1,9 +1,10 @@
-use mathlib.Core.Path.{sym, ◌∙◌}
+use mathlib.Core.Path.{sym, ap}
 use Rattle.text.proofs.Pages.{◌then◌, nothing, spelt}
+use Rattle.listing.specs.Refusal.{index_text}
 use Rattle.listing.proofs.refusal.put_index.Goals as goal
 
-pub returns-then-gives_index : goal.returns-then-gives_index
-returns-then-gives_index c = spelt (c.put_text-next.ensures then c.put_decimal.ensures) rw (sym c.gives_index.ensures ∙ c.if-gives_index.true)
+pub returns-in-Some : goal.returns-in-Some
+returns-in-Some c = spelt (c.put_text-next.ensures then c.put_decimal.ensures) (ap index_text (sym c.in-Some.is))
 
-pub returns-else-gives_index : goal.returns-else-gives_index
-returns-else-gives_index c = spelt (nothing _) rw (sym c.gives_index.ensures ∙ c.if-gives_index.false)
+pub returns-in-None : goal.returns-in-None
+returns-in-None c = spelt (nothing _) (ap index_text (sym c.in-None.is))

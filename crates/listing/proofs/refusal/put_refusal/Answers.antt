@@ -1,5 +1,8 @@
-use Rattle.text.proofs.Pages.{◌then◌}
+use Rattle.std.proofs.Common.{ap}
+use Rattle.text.specs.Digits.{decimal}
+use Rattle.text.proofs.Pages.{◌then◌, spelt}
 use Rattle.listing.proofs.refusal.put_refusal.Goals as goal
 
 pub returns : goal.returns
-returns c = c.put_text-next.ensures then c.put_decimal-after.ensures then c.put_index-last.ensures then c.put_byte.ensures
+returns c =
+    c.put_text-next.ensures then spelt c.put_decimal-after.ensures (ap decimal c.from.ensures) then c.put_index-last.ensures then c.put_byte.ensures
