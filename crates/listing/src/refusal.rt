@@ -1,24 +1,26 @@
 // The refusal line, with an index where one is given.
-ghost use Rattle.text.specs.Page.{page, Wrote};
+ghost use Rattle.text.specs.Page.{Put};
 ghost use Rattle.listing.specs.Refusal.{index_text, refusal_line};
 
-fn put_index(out: &mut [u8], place: usize, index: Option<usize>) -> usize
-    ensures { Wrote (page out.old place) (index_text index) (page out.new result) }
+use text::Page;
+
+fn put_index(page: &mut Page, index: Option<usize>)
+    ensures { Put page.old (index_text index) page.new }
 {
     match index {
         Some(k) => {
-            let next = text::put_text(&mut *out, place, b" at ");
-            text::put_decimal(out, next, k as u64)
+            page.put_text(b" at ");
+            page.put_decimal(k as u64);
         }
-        None => place,
+        None => {}
     }
 }
 
-pub fn put_refusal(out: &mut [u8], place: usize, number: u8, index: Option<usize>) -> usize
-    ensures { Wrote (page out.old place) (refusal_line number index) (page out.new result) }
+pub fn put_refusal(page: &mut Page, number: u8, index: Option<usize>)
+    ensures { Put page.old (refusal_line number index) page.new }
 {
-    let next = text::put_text(&mut *out, place, b"refused ");
-    let after = text::put_decimal(&mut *out, next, u64::from(number));
-    let last = put_index(&mut *out, after, index);
-    text::put_byte(out, last, b'\n')
+    page.put_text(b"refused ");
+    page.put_decimal(u64::from(number));
+    put_index(page, index);
+    page.put_byte(b'\n');
 }

@@ -1,29 +1,30 @@
 // The line that is said of a head.
-ghost use Rattle.text.specs.Page.{page, Wrote};
+ghost use Rattle.text.specs.Page.{Put};
 ghost use Rattle.text.specs.Differ.{first_difference};
 ghost use Rattle.numerals.specs.Line.{found, head_line};
 
 use super::part;
+use text::Page;
 
-fn put_found(out: &mut [u8], place: usize, station: &[u8], head: &[u8]) -> usize
-    ensures { Wrote (page out.old place) (found (first_difference station.now head.now) station.now head.now) (page out.new result) }
+fn put_found(page: &mut Page, station: &[u8], head: &[u8])
+    ensures { Put page.old (found (first_difference station.now head.now) station.now head.now) page.new }
 {
     match text::first_difference(station, head) {
-        None => text::put_text(out, place, b" same"),
+        None => page.put_text(b" same"),
         Some(k) => {
-            let a = text::put_byte(out, place, b' ');
-            let b = text::put_decimal(out, a, k as u64);
-            let c = text::put_byte(out, b, b' ');
-            text::put_hex(out, c, part::piece_at(station, head, k))
+            page.put_byte(b' ');
+            page.put_decimal(k as u64);
+            page.put_byte(b' ');
+            page.put_hex(part::piece_at(station, head, k));
         }
     }
 }
 
 // `station` is the text that is due at head h, and `head` what it showed.
-pub fn put_line(out: &mut [u8], place: usize, h: u8, station: &[u8], head: &[u8]) -> usize
-    ensures { Wrote (page out.old place) (head_line h station.now head.now) (page out.new result) }
+pub fn put_line(page: &mut Page, h: u8, station: &[u8], head: &[u8])
+    ensures { Put page.old (head_line h station.now head.now) page.new }
 {
-    let a = text::put_decimal(out, place, u64::from(h));
-    let b = put_found(out, a, station, head);
-    text::put_byte(out, b, b'\n')
+    page.put_decimal(u64::from(h));
+    put_found(page, station, head);
+    page.put_byte(b'\n');
 }

@@ -1,10 +1,11 @@
 // What the lines about a state are made of, and numbers of several bytes.
 ghost use Rattle.std.specs.Prelude.{[], ◌∷◌, ◌≡◌, ◌<◌, ◌≤◌};
-ghost use Rattle.text.specs.Page.{page, Wrote};
+ghost use Rattle.text.specs.Page.{Put};
 ghost use Rattle.parts.specs.Parts.{word_at, long_at, marked, room_at, bytes_text, state_text, number_text, buffer_text};
 
 use states::Machine;
 use std::array;
+use text::Page;
 
 // Four bytes from byte k on, high byte first; bytes that are missing count as 0.
 pub fn word_at(bytes: &[u8], k: u16) -> u64
@@ -37,35 +38,35 @@ pub fn room_at(bytes: &[u8], k: u16) -> usize
 }
 
 // A number and a blank.
-pub fn put_number(out: &mut [u8], place: usize, n: u64) -> usize
-    ensures { Wrote (page out.old place) (number_text n) (page out.new result) }
+pub fn put_number(page: &mut Page, n: u64)
+    ensures { Put page.old (number_text n) page.new }
 {
-    let next = text::put_decimal(out, place, n);
-    text::put_byte(out, next, b' ')
+    page.put_decimal(n);
+    page.put_byte(b' ');
 }
 
-pub fn put_state(out: &mut [u8], place: usize, m: Machine) -> usize
-    ensures { Wrote (page out.old place) (state_text m) (page out.new result) }
+pub fn put_state(page: &mut Page, m: Machine)
+    ensures { Put page.old (state_text m) page.new }
 {
-    text::put_hex(out, place, &image::image_of(m))
+    page.put_hex(&image::image_of(m));
 }
 
 // Bytes in hex, or a dash where there are none.
-pub fn put_bytes(out: &mut [u8], place: usize, bytes: &[u8]) -> usize
-    ensures { Wrote (page out.old place) (bytes_text bytes.now) (page out.new result) }
+pub fn put_bytes(page: &mut Page, bytes: &[u8])
+    ensures { Put page.old (bytes_text bytes.now) page.new }
 {
     if bytes.is_empty() {
-        text::put_byte(out, place, b'-')
+        page.put_byte(b'-');
     } else {
-        text::put_hex(out, place, bytes)
+        page.put_hex(bytes);
     }
 }
 
-// A number, and the buffer after the call.
-pub fn put_buffer(out: &mut [u8], n: u64, buffer: &[u8]) -> usize
-    ensures { Wrote (page out.old 0) (buffer_text n buffer.now) (page out.new result) }
+// A line of a number and the buffer after the call.
+pub fn put_buffer(page: &mut Page, n: u64, buffer: &[u8])
+    ensures { Put page.old (buffer_text n buffer.now) page.new }
 {
-    let a = put_number(out, 0, n);
-    let b = put_bytes(out, a, buffer);
-    text::put_byte(out, b, b'\n')
+    put_number(page, n);
+    put_bytes(page, buffer);
+    page.put_byte(b'\n');
 }

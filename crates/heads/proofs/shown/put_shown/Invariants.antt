@@ -1,10 +1,8 @@
-use mathlib.Core.Path.{◌≡◌}
-use lib.ListN.{length}
-use Rattle.text.specs.Page.{page}
+use Rattle.places.specs.Capture.{records}
 use Rattle.text.proofs.Pages.{Ahead}
-use Rattle.heads.specs.Shown.{without_zeros, shown_from}
+use Rattle.heads.specs.Shown.{head_text}
 use Rattle.heads.proofs.Shows.{left}
 use Rattle.heads.proofs.shown.put_shown.Given as goal
 
 abbrev pub invariant-loop-k : goal.invariant-loop-k
-invariant-loop-k l = Ahead (page l.initial.out 0) (without_zeros (shown_from l.answers l.head.0 0 l.n)) (page l.out l.next) (left l.answers l.head.0 l.n l.k) × (length l.out ≡ length l.initial.out)
+invariant-loop-k l = Ahead l.initial.page (head_text l.answers l.head.0) l.page (left l.answers l.head.0 (records l.answers) l.k)

@@ -5,4 +5,4 @@ use Rattle.listing.proofs.refusal.put_refusal.Goals as goal
 
 pub returns : goal.returns
 returns c =
-    c.put_text-next.ensures then spelt c.put_decimal-after.ensures (ap decimal c.from.ensures) then c.put_index-last.ensures then c.put_byte.ensures
+    c.put_text.ensures then spelt c.put_decimal.ensures (ap decimal c.from.ensures) then c.put_index.ensures then c.put_byte.ensures

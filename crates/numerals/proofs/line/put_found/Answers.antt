@@ -9,4 +9,4 @@ piece_at-requires c = inside _ _ _ (sym c.first_difference.ensures ∙ c.in-Some
 
 pub returns-in-Some : goal.returns-in-Some
 returns-in-Some c =
-    rw (sym c.first_difference.ensures ∙ c.in-Some.is) (c.put_byte-a.ensures then c.put_decimal-b.ensures then c.put_byte-c.ensures then spelt c.put_hex.ensures (ap hexes c.piece_at.ensures))
+    rw (sym c.first_difference.ensures ∙ c.in-Some.is) (c.put_byte.ensures then c.put_decimal.ensures then c.put_byte-in-Some.ensures then spelt c.put_hex.ensures (ap hexes c.piece_at.ensures))

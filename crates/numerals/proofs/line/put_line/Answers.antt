@@ -6,4 +6,4 @@ use Rattle.numerals.proofs.line.put_line.Goals as goal
 
 pub returns : goal.returns
 unfolding head_line
-returns c = spelt c.put_decimal-a.ensures (ap decimal c.from.ensures) then c.put_found-b.ensures then c.put_byte.ensures
+returns c = spelt c.put_decimal.ensures (ap decimal c.from.ensures) then c.put_found.ensures then c.put_byte.ensures
