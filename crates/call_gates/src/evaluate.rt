@@ -1,10 +1,11 @@
 // E: the evaluator.
 ghost use Rattle.std.specs.Prelude.{◌≡◌, ◌≤◌, length, take};
-ghost use Rattle.text.specs.Page.{page, Wrote};
+ghost use Rattle.text.specs.Page.{Put};
 ghost use Rattle.gates.specs.Refusals.{answered};
 ghost use Rattle.call_gates.specs.Evaluate.{fitting, gate_words, evaluated_text, evaluate_line};
 
 use gates::Refusal;
+use text::Page;
 
 // Two numbers of 8 bytes, then at most 128 words of 4 bytes.
 fn fits(payload: &[u8]) -> bool
@@ -26,34 +27,33 @@ fn words_from(payload: &[u8], n: usize) -> [u32; 128]
     words
 }
 
-fn put_answer(out: &mut [u8], number: u8, index: usize, value: u64) -> usize
-    ensures { Wrote (page out.old 0) (evaluated_text (record { number = number; index = index; value = value })) (page out.new result) }
+fn put_answer(page: &mut Page, number: u8, index: usize, value: u64)
+    ensures { Put page.old (evaluated_text (record { number = number; index = index; value = value })) page.new }
 {
-    let bytes = value.to_be_bytes();
-    let a = parts::put_number(&mut *out, 0, u64::from(number));
-    let b = parts::put_number(&mut *out, a, index as u64);
-    let c = text::put_hex(&mut *out, b, &bytes);
-    text::put_byte(out, c, b'\n')
+    parts::put_number(page, u64::from(number));
+    parts::put_number(page, index as u64);
+    page.put_hex(&value.to_be_bytes());
+    page.put_byte(b'\n');
 }
 
-fn put_evaluated(out: &mut [u8], e: Result<u64, Refusal>) -> usize
-    ensures { Wrote (page out.old 0) (evaluated_text (answered e)) (page out.new result) }
+fn put_evaluated(page: &mut Page, e: Result<u64, Refusal>)
+    ensures { Put page.old (evaluated_text (answered e)) page.new }
 {
     match e {
-        Ok(value) => put_answer(out, 0, 0, value),
-        Err(refusal) => put_answer(out, refusal.number(), refusal.index().unwrap_or(0), 0),
+        Ok(value) => put_answer(page, 0, 0, value),
+        Err(refusal) => put_answer(page, refusal.number(), refusal.index().unwrap_or(0), 0),
     }
 }
 
-pub fn put_evaluate(out: &mut [u8], payload: &[u8]) -> usize
-    ensures { Wrote (page out.old 0) (evaluate_line payload.now) (page out.new result) }
+pub fn put_evaluate(page: &mut Page, payload: &[u8])
+    ensures { Put page.old (evaluate_line payload.now) page.new }
 {
     if !fits(payload) {
-        return text::put_text(out, 0, b"malformed\n");
+        return page.put_text(b"malformed\n");
     }
     let n = (payload.len() - 16) / 4;
     let words = words_from(payload, n);
     let inputs = parts::long_at(payload, 0) as usize;
     let input = parts::long_at(payload, 8);
-    put_evaluated(out, gates::evaluate(&words[..n], inputs, input))
+    put_evaluated(page, gates::evaluate(&words[..n], inputs, input));
 }

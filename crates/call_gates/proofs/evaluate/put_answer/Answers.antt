@@ -8,7 +8,7 @@ use Rattle.call_gates.proofs.evaluate.put_answer.Goals as goal
 pub returns : goal.returns
 returns c =
     let is : c.from.result ≡ c.args.number = search rules in
-    spelt c.put_number-a.ensures (ap number_text is)
-    then c.put_number-b.ensures
-    then spelt c.put_hex-c.ensures (ap hexes c.to_be_bytes-bytes.ensures)
+    spelt c.put_number.ensures (ap number_text is)
+    then c.put_number-2.ensures
+    then spelt c.put_hex.ensures (ap hexes c.to_be_bytes.ensures)
     then c.put_byte.ensures
