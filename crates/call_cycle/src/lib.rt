@@ -4,4 +4,4 @@
 
 mod cycle;
 
-pub use cycle::put_cycle;
+pub use cycle::{put_cycle, put_gate_cycle};

@@ -9,8 +9,7 @@ use Rattle.text.proofs.Pages.{spelt}
 use Rattle.routing.proofs.Equal.{two}
 use Rattle.states.specs.declared.state.State.{State}
 use Rattle.fabric.specs.Cycle.{Machine, machine}
-use Rattle.capture.specs.declared.run.Replayed.{Replayed}
-use Rattle.capture.specs.Replay.{replay_of, replay_writes}
+use Rattle.capture.specs.Replay.{Replayed, replay_of, replay_writes}
 use Rattle.image.specs.Image.{state_from, rows_from}
 use Rattle.call_replay.specs.Replay.{replayed_text, replay_text}
 

@@ -1,17 +1,13 @@
 -- R and G: a state, the length of the answer buffer and a capture; the number, the index, the state after, the buffer after. The buffer holds A5
 -- throughout before the call.
-use Rattle.std.specs.Prelude.{cond, List, [], ◌∷◌, ◌++◌, ℕ, ltb, length, drop}
+use Rattle.std.specs.Prelude.{cond, List, ◌++◌, ℕ, ltb, length, drop}
 use Rattle.text.specs.Ascii.{ascii}
-use Rattle.fabric.specs.Cycle.{machine}
-use Rattle.capture.specs.declared.run.Replayed.{Replayed}
-use Rattle.capture.specs.Replay.{replay_of, replay_writes}
+use Rattle.capture.specs.Replay.{Replayed, replay_of, replay_writes}
 use Rattle.image.specs.Image.{machine_from}
 use Rattle.parts.specs.Parts.{marked, room_at, number_text, state_text, bytes_text, malformed}
 
 abbrev pub replayed_text : Replayed → List ℕ → List ℕ
-replayed_text t buffer =
-    number_text t.number ++ number_text t.index ++ state_text (machine t.state (t.first ∷ t.second ∷ t.switched ∷ t.heads ∷ []))
-    ++ ascii " " ++ bytes_text buffer ++ ascii "\n"
+replayed_text t buffer = number_text t.number ++ number_text t.index ++ state_text t.machine ++ ascii " " ++ bytes_text buffer ++ ascii "\n"
 
 abbrev pub replay_text : List ℕ → List ℕ → List ℕ
 replay_text payload buffer =

@@ -1,20 +1,18 @@
 // S and T: saving and taking up.
 ghost use Rattle.text.specs.Page.{page, Wrote};
+ghost use Rattle.saved.specs.Saved.{taken_as};
 ghost use Rattle.call_replay.specs.State.{save_text, save_line, taken_up_text, take_up_line};
 
-use saved::TakenUp;
+use states::{Machine, Refused};
 
 fn put_save_into(out: &mut [u8], payload: &[u8], buffer: &mut [u8]) -> usize
     ensures { Wrote (page out.old 0) (save_text payload.now buffer.old) (page out.new result) }
 {
-    let number = saved::save(
-        image::state_from(payload),
-        image::rows_from(payload),
-        &mut *buffer,
-    );
-    let a = parts::put_number(&mut *out, 0, number as u64);
-    let b = parts::put_bytes(&mut *out, a, buffer);
-    text::put_byte(out, b, b'\n')
+    let s = image::state_from(payload);
+    let rows = image::rows_from(payload);
+    let refusal = saved::save(s, rows, buffer).err();
+    let number = refusal.map_or(0, |refusal| refusal.number());
+    parts::put_buffer(out, u64::from(number), buffer)
 }
 
 pub fn put_save(out: &mut [u8], payload: &[u8]) -> usize
@@ -28,16 +26,21 @@ pub fn put_save(out: &mut [u8], payload: &[u8]) -> usize
     put_save_into(out, payload, &mut space[..room])
 }
 
-fn put_taken_up(out: &mut [u8], t: TakenUp) -> usize
-    ensures { Wrote (page out.old 0) (taken_up_text t) (page out.new result) }
+fn put_machine(out: &mut [u8], number: u8, m: Machine) -> usize
+    ensures { Wrote (page out.old 0) (taken_up_text (record { number = number; machine = m })) (page out.new result) }
 {
-    let first = t.first;
-    let second = t.second;
-    let switched = t.switched;
-    let heads = t.heads;
-    let a = parts::put_number(&mut *out, 0, t.number as u64);
-    let b = parts::put_state(&mut *out, a, t.state, first, second, switched, heads);
+    let a = parts::put_number(out, 0, u64::from(number));
+    let b = parts::put_state(out, a, m);
     text::put_byte(out, b, b'\n')
+}
+
+fn put_taken_up(out: &mut [u8], t: Result<Machine, Refused>) -> usize
+    ensures { Wrote (page out.old 0) (taken_up_text (taken_as t)) (page out.new result) }
+{
+    match t {
+        Ok(machine) => put_machine(out, 0, machine),
+        Err(Refused { why, machine }) => put_machine(out, why.number(), machine),
+    }
 }
 
 pub fn put_take_up(out: &mut [u8], payload: &[u8]) -> usize

@@ -6,20 +6,15 @@ ghost use Rattle.call_settled.specs.Calls.{digit_for, heads_text, ahead_line};
 fn digit_for(on: bool) -> u8
     ensures { result ≡ digit_for on }
 {
-    if on { b'1' } else { b'0' }
+    b'0' + u8::from(on)
 }
 
 fn put_heads(out: &mut [u8], heads: [bool; 4]) -> usize
     ensures { Wrote (page out.old 0) (heads_text heads) (page out.new result) }
 {
-    let line = [
-        digit_for(heads[0]),
-        digit_for(heads[1]),
-        digit_for(heads[2]),
-        digit_for(heads[3]),
-        b'\n',
-    ];
-    text::put_text(out, 0, &line)
+    let digits = heads.map(digit_for);
+    let next = text::put_text(out, 0, &digits);
+    text::put_byte(out, next, b'\n')
 }
 
 pub fn put_ahead(out: &mut [u8], payload: &[u8]) -> usize

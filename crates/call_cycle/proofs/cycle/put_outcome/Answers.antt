@@ -1,10 +1,10 @@
 use mathlib.Core.Path.{sym, ap}
+use Rattle.text.specs.Digits.{decimal}
 use Rattle.call_cycle.specs.Cycle.{outcome_text}
 use Rattle.text.proofs.Pages.{◌then◌, spelt}
 use Rattle.call_cycle.proofs.cycle.put_outcome.Goals as goal
 
-pub returns-in-Quiet : goal.returns-in-Quiet
-returns-in-Quiet c = spelt c.put_byte.ensures (ap outcome_text (sym c.in-Quiet.is))
-
 pub returns-in-Won : goal.returns-in-Won
-returns-in-Won c = spelt (c.put_decimal-next.ensures then c.put_byte-after.ensures then c.put_decimal.ensures) (ap outcome_text (sym c.in-Won.is))
+returns-in-Won c =
+    spelt (spelt c.put_decimal-next.ensures (ap decimal c.from.ensures) then c.put_byte-after.ensures then spelt c.put_decimal.ensures (ap decimal c.from-in-Won.ensures))
+    (ap outcome_text (sym c.in-Won.is))

@@ -1,8 +1,17 @@
-use mathlib.Core.Path.{ap}
+use mathlib.Core.Path.{◌≡◌, ap}
+use borrow.Author.Rules.{rules}
 use Rattle.text.proofs.Pages.{◌then◌, spelt}
-use Rattle.call_cycle.specs.Cycle.{cycled_text}
+use Rattle.fabric.specs.Cycle.{cycle_answer}
+use Rattle.engine.specs.Cycle.{gate_answer, without_report}
+use Rattle.call_cycle.specs.Cycle.{cycled_text, report_text}
 use Rattle.call_cycle.proofs.cycle.put_plain.Goals as goal
 
 pub returns : goal.returns
 returns c =
-    spelt c.put_cycled-a.ensures (ap cycled_text c.without_report.ensures) then c.put_byte-b.ensures then c.put_report-c.ensures then c.put_byte.ensures
+    let t = cycle_answer c.args.t in
+    let moved : gate_answer c.map.result ≡ without_report t = search rules in
+    let report : c.map_or.result ≡ t.report = search rules in
+    spelt c.put_moved-a.ensures (ap cycled_text moved)
+    then c.put_byte-b.ensures
+    then spelt c.put_report-c.ensures (ap report_text report)
+    then c.put_byte.ensures

@@ -6,24 +6,15 @@ use Rattle.call_replay.specs.Replay.{replay_text, replay_line}
 use Rattle.parts.proofs.Lent.{marks_cut}
 use Rattle.call_replay.proofs.replay.put_replay.Goals as goal
 
-pub slice_bounds-put_gate_replay_into-end : goal.slice_bounds-put_gate_replay_into-end
-slice_bounds-put_gate_replay_into-end c = part_length 165 _ 65536 c.marks-space.ensures c.room_at-room.ensures.1
-
 pub slice_bounds-put_replay_into-end : goal.slice_bounds-put_replay_into-end
-slice_bounds-put_replay_into-end c = part_length 165 _ 65536 c.marks-space.ensures c.room_at-room.ensures.1
+slice_bounds-put_replay_into-end g c = part_length 165 _ 65536 c.marks-space.ensures c.room_at-room.ensures.1
 
 pub returns-then-payload-lt29 : goal.returns-then-payload-lt29
 unfolding replay_line
-returns-then-payload-lt29 c = spelt c.put_text.ensures rw (lt-ltb _ _ c.if-payload-lt29.true)
-
-pub returns-then-by_gates : goal.returns-then-by_gates
-unfolding replay_line
-returns-then-by_gates c =
-    let payload = c.args.payload.now in
-    spelt c.put_gate_replay_into.ensures (ap (replay_text payload) (marks_cut payload 25 c.marks-space.ensures c.room_at-room.ensures) ∙ rw (le-ltb _ _ c.if-payload-lt29.false))
+returns-then-payload-lt29 g c = spelt c.put_text.ensures rw (lt-ltb _ _ c.if-payload-lt29.true)
 
 pub returns : goal.returns
 unfolding replay_line
-returns c =
+returns g c =
     let payload = c.args.payload.now in
     spelt c.put_replay_into.ensures (ap (replay_text payload) (marks_cut payload 25 c.marks-space.ensures c.room_at-room.ensures) ∙ rw (le-ltb _ _ c.if-payload-lt29.false))

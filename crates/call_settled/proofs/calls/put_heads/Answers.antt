@@ -1,10 +1,14 @@
-use mathlib.Core.Path.{ap}
-use mathlib.Core.List.{List, ◌++◌}
-use Prim.Native.Nat.{ℕ}
-use Rattle.text.specs.Ascii.{ascii}
-use Rattle.text.proofs.Pages.{spelt}
-use Rattle.routing.proofs.Equal.{row_of}
+use mathlib.Core.Path.{◌≡◌}
+use mathlib.Core.Bool.{false}
+use Rattle.std.proofs.Common.{arith}
+use Rattle.std.proofs.lemmas.Grind.{common_steps}
+use lib.ListN.{get_or}
+use Rattle.routing.specs.Four.{four}
+use Rattle.text.proofs.Pages.{◌then◌, spelt}
+use Rattle.call_settled.specs.Calls.{digit_for}
 use Rattle.call_settled.proofs.calls.put_heads.Goals as goal
 
 pub returns : goal.returns
-returns c = spelt c.put_text.ensures (ap (λ (digits : List ℕ). digits ++ ascii "\n") (row_of c.digit_for.ensures c.digit_for-2.ensures c.digit_for-3.ensures c.digit_for-4.ensures))
+returns c =
+    let digits : c.map-digits.result ≡ four (λ h. digit_for (get_or c.args.heads h false)) = grind (arith, common_steps) in
+    spelt c.put_text-next.ensures digits then c.put_byte.ensures

@@ -1,8 +1,0 @@
-use mathlib.Core.Path.{ap}
-use Rattle.text.specs.Digits.{hexes}
-use Rattle.text.proofs.Pages.{◌then◌, spelt}
-use Rattle.call_cycle.proofs.cycle.put_cycled.Goals as goal
-
-pub returns : goal.returns
-returns c =
-    c.put_number-a.ensures then c.put_state-b.ensures then c.put_byte-c.ensures then spelt c.put_hex.ensures (ap hexes c.answer_bytes-answer.ensures)

@@ -1,0 +1,12 @@
+use mathlib.Core.Path.{ap}
+use Rattle.text.specs.Digits.{hexes}
+use Rattle.text.proofs.Pages.{◌then◌, spelt}
+use Rattle.parts.specs.Parts.{number_text}
+use Rattle.call_cycle.proofs.cycle.put_numbered.Goals as goal
+
+pub returns : goal.returns
+returns c =
+    spelt c.put_number-a.ensures (ap number_text c.from.ensures)
+    then c.put_state-b.ensures
+    then c.put_byte-c.ensures
+    then spelt c.put_hex.ensures (ap hexes c.answer_bytes-answer.ensures)

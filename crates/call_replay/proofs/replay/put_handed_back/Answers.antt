@@ -1,0 +1,13 @@
+use mathlib.Core.Path.{ap}
+use Rattle.text.proofs.Pages.{◌then◌, spelt}
+use Rattle.parts.specs.Parts.{number_text}
+use Rattle.call_replay.proofs.replay.put_handed_back.Goals as goal
+
+pub returns : goal.returns
+returns c =
+    spelt c.put_number-a.ensures (ap number_text c.from.ensures)
+    then c.put_number-b.ensures
+    then c.put_state-c.ensures
+    then c.put_byte-d.ensures
+    then c.put_bytes-e.ensures
+    then c.put_byte.ensures

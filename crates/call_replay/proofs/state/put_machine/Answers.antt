@@ -1,0 +1,7 @@
+use mathlib.Core.Path.{ap}
+use Rattle.text.proofs.Pages.{◌then◌, spelt}
+use Rattle.parts.specs.Parts.{number_text}
+use Rattle.call_replay.proofs.state.put_machine.Goals as goal
+
+pub returns : goal.returns
+returns c = spelt c.put_number-a.ensures (ap number_text c.from.ensures) then c.put_state-b.ensures then c.put_byte.ensures
