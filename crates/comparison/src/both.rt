@@ -27,12 +27,8 @@ pub fn replay_both(capture: &[u8], plain: &mut [u8], gates: &mut [u8]) -> Both
     let p = capture::replay(&Rules, s, rows, capture, &mut *plain);
     let g = capture::replay(&Gates, s, rows, capture, &mut *gates);
     let difference = agreement::disagreement(p, g, plain, gates);
-    let outcome = match p {
-        Ok(_) => Ok(()),
-        Err(r) => Err(r.why),
-    };
     Both {
-        outcome,
+        outcome: p.map(|_| ()).map_err(|r| r.why),
         difference,
     }
 }

@@ -2,6 +2,7 @@
 use mathlib.Core.Bool.{Bool, true, false}
 use mathlib.Core.Path.{◌≡◌, refl, ap}
 use mathlib.Core.List.{List, ◌++◌}
+use Rattle.std.proofs.Common.{Some}
 use Prim.Native.Nat.{ℕ, ◌*◌, ◌/◌, ◌%◌, ◌≤◌, ◌<◌}
 use native.Mathlib.Omega.{arith}
 use lib.Dec.{eqb, ltb}
@@ -47,7 +48,7 @@ module _ (said : List ℕ → List ℕ) (page : ℕ) (line : 64 ≤ page) (room 
     early = no_number reset_state capture (length capture) refl refl whole few (omega arith)
 
     -- the index is a record's
-    bad_line : (k : ℕ) → k < records capture → length (refusal_line 3 k) ≤ page
+    bad_line : (k : ℕ) → k < records capture → length (refusal_line 3 (Some k)) ≤ page
     unfolding decimal_in
     bad_line k h =
         let d : length (decimal k) ≤ 5 = few_digits 4 k (omega (arith, h, few)) in omega (arith, d, line, length-append (decimal k) (ascii "\n"))
@@ -57,7 +58,7 @@ module _ (said : List ℕ → List ℕ) (page : ℕ) (line : 64 ≤ page) (room 
     by_bad true e =
         let less : first_bad capture 0 (records capture) < records capture = ltb-true _ _ e in
         let p = printed_by_lem said capture (refused_3 reset_state capture (length capture) early refl refl less) in
-        let l : length (printed_by said capture) ≡ length (refusal_line 3 (first_bad capture 0 (records capture))) = ap length p in
+        let l : length (printed_by said capture) ≡ length (refusal_line 3 (Some (first_bad capture 0 (records capture)))) = ap length p in
         omega (arith, l, bad_line (first_bad capture 0 (records capture)) less)
     by_bad false e =
         let p = printed_by_lem said capture (done reset_state capture (length capture) early refl refl (ltb-false _ _ e)) in

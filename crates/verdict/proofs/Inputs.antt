@@ -1,44 +1,39 @@
 -- What both engines say of the bytes that are kept of an input. Assumes nothing.
-use mathlib.Core.Bool.{Bool, true}
-use mathlib.Core.Path.{◌≡◌, sym, ap, ◌∙◌}
-use mathlib.Core.List.{List}
-use Prim.Native.Nat.{ℕ, ◌≤◌}
-use lib.ListN.{length, take, length-replicate}
-use Rattle.text.specs.declared.difference.Difference.{Difference}
+use Rattle.std.proofs.Common.{◌≡◌, ℕ, ◌≤◌, Bool, true, List, length, take, Option, is_none, sym, ap, ◌∙◌}
+use Rattle.std.proofs.lemmas.List.{take-replicate}
+use lib.ListN.{length-replicate}
 use Rattle.text.specs.Page.{Page, Wrote}
-use Rattle.text.proofs.Lists.{take_replicate}
 use Rattle.text.proofs.Pages.{spelt}
 use Rattle.fabric.specs.Run.{reset_machine}
 use Rattle.capture.specs.Replay.{replay_of, replay_writes}
-use Rattle.comparison.specs.Agreement.{is_same}
 use Rattle.comparison.specs.Both.{zeros, both_of}
 use Rattle.comparison.proofs.Inputs.{both_agree}
 use Rattle.verdict.specs.Verdict.{outcome_text, unless_differ, verdict_of}
 use Rattle.verdict.specs.Printed.{printed_by}
 
 -- the start of the buffer of zeros, as long as a capture
-pub as_zeros : (capture : List ℕ) {buffer : List ℕ} → buffer ≡ zeros 61449 → length capture ≤ 61449 → take (length capture) buffer ≡ zeros (length capture)
-as_zeros capture e few = ap (take (length capture)) e ∙ take_replicate 0 (length capture) 61449 few
+pub as_zeros : (capture : List ℕ) → length capture ≤ 61449 → take (length capture) (zeros 61449) ≡ zeros (length capture)
+as_zeros capture few = take-replicate (length capture) 61449 0 few
 
 module _ (said : List ℕ → List ℕ) where
   -- both engines on a capture, each into as many zeros: they agree, and what is to be printed is said
   module _ (capture : List ℕ) (z : List ℕ) (e : z ≡ zeros (length capture)) where
-    both_same : is_same (both_of capture z z).difference ≡ true
-    both_same = ap is_same (both_agree capture z)
+    both_same : is_none (both_of capture z z).difference ≡ true
+    both_same = ap is_none (both_agree capture z)
 
     both_text : verdict_of said (both_of capture z z) (replay_writes reset_machine capture z) ≡ printed_by said capture
     unfolding printed_by
     both_text =
         let long : length z ≡ length capture = ap length e ∙ length-replicate (length capture) 0 in
-        ap (λ (d : Difference). unless_differ d (outcome_text said (replay_of reset_machine capture (length z)).number (replay_of reset_machine capture (length z)).index (replay_writes reset_machine capture z))) (both_agree capture z)
+        ap (λ (d : Option ℕ). unless_differ d (outcome_text said (replay_of reset_machine capture (length z)).number (replay_of reset_machine capture (length z)).index (replay_writes reset_machine capture z))) (both_agree capture z)
         ∙ ap (λ (n : ℕ). outcome_text said (replay_of reset_machine capture n).number (replay_of reset_machine capture n).index (replay_writes reset_machine capture z)) long
         ∙ ap (λ (l : List ℕ). outcome_text said (replay_of reset_machine capture (length capture)).number (replay_of reset_machine capture (length capture)).index (replay_writes reset_machine capture l)) e
 
   pub both_said : (capture plain gates whole : List ℕ) {agreed : Bool} {before after : Page} → plain ≡ zeros (length capture) → gates ≡ zeros (length capture) → capture ≡ whole
-      → (agreed ≡ is_same (both_of capture plain gates).difference) × Wrote before (verdict_of said (both_of capture plain gates) (replay_writes reset_machine capture plain)) after
+      → (agreed ≡ is_none (both_of capture plain gates).difference) × Wrote before (verdict_of said (both_of capture plain gates) (replay_writes reset_machine capture plain)) after
       → (agreed ≡ true) × Wrote before (printed_by said whole) after
   both_said capture plain gates whole ep eg ew w =
       let same : gates ≡ plain = eg ∙ sym ep in (
-        w.0 ∙ ap (λ (g : List ℕ). is_same (both_of capture plain g).difference) same ∙ both_same capture plain ep,
+        w.0 ∙ ap (λ (g : List ℕ). is_none (both_of capture plain g).difference) same ∙ both_same capture plain ep,
         spelt w.1 (ap (λ (g : List ℕ). verdict_of said (both_of capture plain g) (replay_writes reset_machine capture plain)) same ∙ both_text capture plain ep ∙ ap (printed_by said) ew),
       )

@@ -2,6 +2,7 @@
 use mathlib.Core.Bool.{Bool, true, false}
 use mathlib.Core.Path.{◌≡◌, refl, sym, ap, ◌∙◌}
 use mathlib.Core.List.{List}
+use Rattle.std.proofs.Common.{None}
 use Prim.Native.Nat.{ℕ, ◌+◌, ◌%◌, ◌≤◌, ◌<◌}
 use native.Mathlib.Omega.{arith}
 use lib.Dec.{eqb, ltb}
@@ -11,9 +12,8 @@ use borrow.Author.Tests.{ltb-true, ltb-false, eqb-true, eqb-false}
 use Rattle.routing.proofs.Equal.{two}
 use Rattle.states.specs.State.{reset_state, state_refusal}
 use Rattle.fabric.specs.Run.{reset_machine}
-use Rattle.capture.specs.declared.refusal.Judged.{Judged}
 use Rattle.places.specs.Capture.{records}
-use Rattle.capture.specs.Refusal.{limit, judged}
+use Rattle.capture.specs.Refusal.{Judged, limit, judged}
 use Rattle.capture.specs.Replay.{replayed_as, written_as}
 use Rattle.capture.proofs.Fates.{number_1, number_4, refused_early}
 use Rattle.listing.specs.Listing.{listing}
@@ -37,11 +37,11 @@ module _ (said : List ℕ → List ℕ) (capture : List ℕ) where
       two (λ (r w : Judged). outcome_text said (replayed_as r reset_machine capture).number (replayed_as r reset_machine capture).index (written_as w reset_machine capture (zeros (length capture)))) (sym is) (sym room ∙ sym is)
 
   -- 1 goes before 4, and where one of the two is given nothing but the length counts
-  pub bytes_left : ¬ (length capture % 5 ≡ 0) → printed_by said capture ≡ refusal_line 1 0
+  pub bytes_left : ¬ (length capture % 5 ≡ 0) → printed_by said capture ≡ refusal_line 1 None
   unfolding outcome_text state_refusal
   bytes_left h = printed_by_lem (refused_early reset_state capture (length capture) (number_1 reset_state capture (length capture) refl refl h) (λ z. omega (arith, z)))
 
-  pub too_many : length capture % 5 ≡ 0 → limit < records capture → printed_by said capture ≡ refusal_line 4 0
+  pub too_many : length capture % 5 ≡ 0 → limit < records capture → printed_by said capture ≡ refusal_line 4 None
   unfolding outcome_text state_refusal
   too_many h over = printed_by_lem (refused_early reset_state capture (length capture) (number_4 reset_state capture (length capture) refl refl h over) (λ z. omega (arith, z)))
 

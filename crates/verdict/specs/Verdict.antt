@@ -1,23 +1,24 @@
 -- What is said of both engines' replays: something of the answers, or the refusal line; where the two differ, where they do.
-use Rattle.std.specs.Prelude.{Bool, cond, List, ◌++◌, ℕ, eqb}
-use Rattle.text.specs.declared.difference.Difference.{Difference}
-use Rattle.text.specs.declared.difference.Difference.TheVariants.{Same, At}
+use Rattle.std.specs.Prelude.{◌≡◌, Bool, true, false, cond, List, ◌++◌, Option, Some, None, ℕ, eqb, Result, Ok, Err}
 use Rattle.text.specs.Ascii.{ascii}
 use Rattle.text.specs.Digits.{decimal}
+use Rattle.input.specs.declared.streams.Stream.{Stream}
+use Rattle.input.specs.declared.streams.Stream.TheVariants.{Output, Error}
 use Rattle.listing.specs.Listing.{listing}
 use Rattle.listing.specs.Refusal.{refusal_line}
-use Rattle.comparison.specs.declared.both.Both.{Both}
+use Rattle.comparison.specs.Both.{Both, index_given}
+use Rattle.verdict.specs.declared.said.Disagreement.{Disagreement}
 
 -- of a replay that is done what `said` makes of its answers, otherwise the refusal line
 unfoldable pub outcome_text : (List ℕ → List ℕ) → ℕ → ℕ → List ℕ → List ℕ
-outcome_text said number index answers = cond (eqb number 0) (said answers) (refusal_line number index)
+outcome_text said number index answers = cond (eqb number 0) (said answers) (refusal_line number (index_given number index))
 
 abbrev pub differ_text : ℕ → List ℕ
 differ_text k = ascii "engines differ at " ++ decimal k ++ ascii "\n"
 
-abbrev pub unless_differ : Difference → List ℕ → List ℕ
-unless_differ Same text = text
-unless_differ (At k) text = differ_text k
+abbrev pub unless_differ : Option ℕ → List ℕ → List ℕ
+unless_differ None text = text
+unless_differ (Some k) text = differ_text k
 
 abbrev pub verdict_of : (List ℕ → List ℕ) → Both → List ℕ → List ℕ
 verdict_of said b answers = unless_differ b.difference (outcome_text said b.number b.index answers)
@@ -26,6 +27,19 @@ verdict_of said b answers = unless_differ b.difference (outcome_text said b.numb
 abbrev pub verdict_text : Both → List ℕ → List ℕ
 verdict_text = verdict_of listing
 
--- where a program puts the text: on 1, standard output, or where the engines differ on 2, standard error, so that nothing stands on 1
-abbrev pub stream_of : Bool → ℕ
-stream_of agreed = cond agreed 1 2
+-- whether the engines agree, and how many bytes of text there are
+abbrev pub agreed_in : Result ℕ Disagreement → Bool
+agreed_in (Ok n) = true
+agreed_in (Err d) = false
+
+abbrev pub length_in : Result ℕ Disagreement → ℕ
+length_in (Ok n) = n
+length_in (Err d) = d.length
+
+-- The two tell a verdict.
+abbrev pub VerdictTold : Type 0
+VerdictTold = (v w : Result ℕ Disagreement) → agreed_in v ≡ agreed_in w → length_in v ≡ length_in w → v ≡ w
+
+-- where a program puts the text: on standard output, or where the engines differ on standard error, so that nothing stands on standard output
+abbrev pub stream_of : Bool → Stream
+stream_of agreed = cond agreed Output Error

@@ -1,27 +1,27 @@
 // What is said of both engines' replays of one capture.
-ghost use Rattle.std.specs.Prelude.{◌≡◌};
+ghost use Rattle.std.specs.Prelude.{◌≡◌, is_none};
 ghost use Rattle.text.specs.Page.{page, Wrote};
+ghost use Rattle.states.specs.Refusal.{number_in};
 ghost use Rattle.listing.specs.Listing.{listing};
-ghost use Rattle.comparison.specs.Agreement.{is_same};
-ghost use Rattle.verdict.specs.Verdict.{outcome_text, differ_text, verdict_text, stream_of};
+ghost use Rattle.comparison.specs.Both.{told, place_in};
+ghost use Rattle.verdict.specs.Verdict.{outcome_text, differ_text, verdict_text, agreed_in, length_in, stream_of};
 
 use comparison::Both;
-use text::Difference;
+use input::Stream;
+use states::Refusal;
 
-// Whether the two agree, and how many bytes of text there are.
-#[derive(Clone, Copy)]
-pub struct Verdict {
-    pub agreed: bool,
+// The two engines differ; so many bytes of text say where.
+#[derive(Clone, Copy, PartialEq, Eq)]
+pub struct Disagreement {
     pub length: usize,
 }
 
-fn put_outcome(out: &mut [u8], number: u8, index: usize, answers: &[u8]) -> usize
-    ensures { Wrote (page out.old 0) (outcome_text listing number index answers.now) (page out.new result) }
+fn put_outcome(out: &mut [u8], outcome: Result<(), Refusal>, answers: &[u8]) -> usize
+    ensures { Wrote (page out.old 0) (outcome_text listing (number_in outcome) (place_in outcome) answers.now) (page out.new result) }
 {
-    if number == 0 {
-        listing::put_listing(out, 0, answers)
-    } else {
-        listing::put_refusal(out, 0, number, index)
+    match outcome {
+        Ok(()) => listing::put_listing(out, 0, answers),
+        Err(why) => listing::put_refusal(out, 0, why.number(), why.index()),
     }
 }
 
@@ -33,33 +33,26 @@ fn put_difference(out: &mut [u8], k: usize) -> usize
     text::put_byte(out, last, b'\n')
 }
 
-// `answers` are those of the plain engine.
-pub fn put_verdict(out: &mut [u8], b: Both, answers: &[u8]) -> Verdict
-    ensures agreed { result.agreed ≡ is_same b.difference }
-    ensures writes { Wrote (page out.old 0) (verdict_text b answers.now) (page out.new result.length) }
+// How many bytes of text there are where the two agree. `answers` are those of the plain engine.
+pub fn put_verdict(out: &mut [u8], b: Both, answers: &[u8]) -> Result<usize, Disagreement>
+    ensures agreed { agreed_in result ≡ is_none b.difference }
+    ensures writes { Wrote (page out.old 0) (verdict_text (told b) answers.now) (page out.new (length_in result)) }
 {
-    let difference = b.difference;
-    match difference {
-        Difference::Same => {
-            let length = put_outcome(out, b.number, b.index, answers);
-            Verdict {
-                agreed: true,
-                length,
-            }
-        }
-        Difference::At(k) => {
-            let length = put_difference(out, k);
-            Verdict {
-                agreed: false,
-                length,
-            }
-        }
+    match b.difference {
+        None => Ok(put_outcome(out, b.outcome, answers)),
+        Some(k) => Err(Disagreement {
+            length: put_difference(out, k),
+        }),
     }
 }
 
 // Where the text of a verdict goes.
-pub fn stream(agreed: bool) -> u8
+pub fn stream(agreed: bool) -> Stream
     ensures { result ≡ stream_of agreed }
 {
-    if agreed { 1 } else { 2 }
+    if agreed {
+        Stream::Output
+    } else {
+        Stream::Error
+    }
 }
