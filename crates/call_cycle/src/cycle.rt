@@ -1,6 +1,6 @@
 // C and D: a single cycle, by the rules and by the gates.
 ghost use Rattle.std.specs.Prelude.{true, false, ◌≡◌};
-ghost use Rattle.text.specs.Page.{page, Wrote};
+ghost use Rattle.text.specs.Page.{Put};
 ghost use Rattle.fabric.specs.Cycle.{cycle_answer};
 ghost use Rattle.engine.specs.Cycle.{gate_answer};
 ghost use Rattle.call_cycle.specs.Cycle.{outcome_text, next_text, outcomes_text, report_text, numbered, cycled_text, plain_text, gates_text, asked_in, cycle_line};
@@ -8,91 +8,92 @@ ghost use Rattle.call_cycle.specs.Cycle.{outcome_text, next_text, outcomes_text,
 use fabric::{Cycled, Inputs, Moved};
 use routing::{Outcome, Outcomes, Report};
 use states::{Machine, Refused};
+use text::Page;
 
-fn put_outcome(out: &mut [u8], place: usize, o: Outcome) -> usize
-    ensures { Wrote (page out.old place) (outcome_text o) (page out.new result) }
+fn put_outcome(page: &mut Page, o: Outcome)
+    ensures { Put page.old (outcome_text o) page.new }
 {
     match o {
-        Outcome::Quiet => text::put_byte(out, place, b'-'),
+        Outcome::Quiet => page.put_byte(b'-'),
         Outcome::Won {
             winner,
             turned_away,
         } => {
-            let next = text::put_decimal(out, place, u64::from(winner.0));
-            let after = text::put_byte(out, next, b':');
-            text::put_decimal(out, after, u64::from(turned_away))
+            page.put_decimal(u64::from(winner.0));
+            page.put_byte(b':');
+            page.put_decimal(u64::from(turned_away));
         }
     }
 }
 
 // An outcome that stands behind another.
-fn put_next(out: &mut [u8], place: usize, o: Outcome) -> usize
-    ensures { Wrote (page out.old place) (next_text o) (page out.new result) }
+fn put_next(page: &mut Page, o: Outcome)
+    ensures { Put page.old (next_text o) page.new }
 {
-    let next = text::put_byte(out, place, b',');
-    put_outcome(out, next, o)
+    page.put_byte(b',');
+    put_outcome(page, o);
 }
 
-fn put_outcomes(out: &mut [u8], place: usize, os: Outcomes) -> usize
-    ensures { Wrote (page out.old place) (outcomes_text os) (page out.new result) }
+fn put_outcomes(page: &mut Page, os: Outcomes)
+    ensures { Put page.old (outcomes_text os) page.new }
 {
-    let a = put_outcome(out, place, os.output0);
-    let b = put_next(out, a, os.output1);
-    let c = put_next(out, b, os.output2);
-    put_next(out, c, os.output3)
+    put_outcome(page, os.output0);
+    put_next(page, os.output1);
+    put_next(page, os.output2);
+    put_next(page, os.output3);
 }
 
-fn put_report(out: &mut [u8], place: usize, report: Report) -> usize
-    ensures { Wrote (page out.old place) (report_text report) (page out.new result) }
+fn put_report(page: &mut Page, report: Report)
+    ensures { Put page.old (report_text report) page.new }
 {
     match report {
-        Report::NoRouting => text::put_text(out, place, b"none"),
-        Report::Routing(os) => put_outcomes(out, place, os),
+        Report::NoRouting => page.put_text(b"none"),
+        Report::Routing(os) => put_outcomes(page, os),
     }
 }
 
 // Number, state and answer record.
-fn put_numbered(out: &mut [u8], number: u8, m: Moved) -> usize
-    ensures { Wrote (page out.old 0) (cycled_text (numbered number m)) (page out.new result) }
+fn put_numbered(page: &mut Page, number: u8, m: Moved)
+    ensures { Put page.old (cycled_text (numbered number m)) page.new }
 {
     let answer = records::answer_bytes(m.acks, m.shown);
-    let a = parts::put_number(out, 0, u64::from(number));
-    let b = parts::put_state(out, a, m.machine);
-    let c = text::put_byte(out, b, b' ');
-    text::put_hex(out, c, &answer)
+    parts::put_number(page, u64::from(number));
+    parts::put_state(page, m.machine);
+    page.put_byte(b' ');
+    page.put_hex(&answer);
 }
 
 // A refusal shows the state as given, and zeros for answers.
-fn put_moved(out: &mut [u8], t: Result<Moved, Refused>) -> usize
-    ensures { Wrote (page out.old 0) (cycled_text (gate_answer t)) (page out.new result) }
+fn put_moved(page: &mut Page, t: Result<Moved, Refused>)
+    ensures { Put page.old (cycled_text (gate_answer t)) page.new }
 {
     match t {
-        Ok(moved) => put_numbered(out, 0, moved),
+        Ok(moved) => put_numbered(page, 0, moved),
         Err(refused) => {
             let still = Moved {
                 acks: [false; 4],
                 shown: [0; 4],
                 machine: refused.machine,
             };
-            put_numbered(out, refused.why.number(), still)
+            put_numbered(page, refused.why.number(), still);
         }
     }
 }
 
-fn put_plain(out: &mut [u8], t: Result<Cycled, Refused>) -> usize
-    ensures { Wrote (page out.old 0) (plain_text (cycle_answer t)) (page out.new result) }
+fn put_plain(page: &mut Page, t: Result<Cycled, Refused>)
+    ensures { Put page.old (plain_text (cycle_answer t)) page.new }
 {
-    let a = put_moved(out, t.map(|cycled| cycled.moved));
-    let b = text::put_byte(out, a, b' ');
-    let c = put_report(out, b, t.map_or(Report::NoRouting, |cycled| cycled.report));
-    text::put_byte(out, c, b'\n')
+    put_moved(page, t.map(|cycled| cycled.moved));
+    page.put_byte(b' ');
+    put_report(page, t.map_or(Report::NoRouting, |cycled| cycled.report));
+    page.put_byte(b'\n');
 }
 
-fn put_gates(out: &mut [u8], t: Result<Moved, Refused>) -> usize
-    ensures { Wrote (page out.old 0) (gates_text (gate_answer t)) (page out.new result) }
+fn put_gates(page: &mut Page, t: Result<Moved, Refused>)
+    ensures { Put page.old (gates_text (gate_answer t)) page.new }
 {
-    let a = put_moved(out, t);
-    text::put_byte(out, a, b'\n')
+    put_moved(page, t);
+    page.put_byte(b'\n');
 }
 
 // What a cycle starts from, and what comes in.
@@ -117,26 +118,26 @@ fn asked_in(payload: &[u8]) -> Option<Asked>
     Some(Asked { machine, inputs })
 }
 
-pub fn put_cycle(out: &mut [u8], payload: &[u8]) -> usize
-    ensures { Wrote (page out.old 0) (cycle_line payload.now false) (page out.new result) }
+pub fn put_cycle(page: &mut Page, payload: &[u8])
+    ensures { Put page.old (cycle_line payload.now false) page.new }
 {
     match asked_in(payload) {
         Some(Asked { machine, inputs }) => put_plain(
-            out,
+            page,
             fabric::single_cycle(machine.state, machine.rows, inputs),
         ),
-        None => text::put_text(out, 0, b"malformed\n"),
+        None => page.put_text(b"malformed\n"),
     }
 }
 
-pub fn put_gate_cycle(out: &mut [u8], payload: &[u8]) -> usize
-    ensures { Wrote (page out.old 0) (cycle_line payload.now true) (page out.new result) }
+pub fn put_gate_cycle(page: &mut Page, payload: &[u8])
+    ensures { Put page.old (cycle_line payload.now true) page.new }
 {
     match asked_in(payload) {
         Some(Asked { machine, inputs }) => put_gates(
-            out,
+            page,
             engine::single_cycle(machine.state, machine.rows, inputs),
         ),
-        None => text::put_text(out, 0, b"malformed\n"),
+        None => page.put_text(b"malformed\n"),
     }
 }

@@ -3,7 +3,8 @@ use mathlib.Core.Path.{◌≡◌, ◌∙◌}
 use mathlib.Core.List.{List}
 use Prim.Native.Nat.{ℕ, ◌-◌}
 use lib.ListN.{length, take, drop}
-use Rattle.text.specs.Page.{Page, Wrote}
+use Rattle.text.specs.declared.page.Page.{Page}
+use Rattle.text.specs.Page.{Put}
 use Rattle.text.proofs.Lists.{part_all}
 use Rattle.text.proofs.Pages.{spelt}
 use Rattle.routing.proofs.Equal.{two}
@@ -16,7 +17,7 @@ use Rattle.call_replay.specs.Replay.{replayed_text, replay_text}
 -- the capture is lent as the part of the payload behind the state and the length
 pub replayed_by : (payload buffer : List ℕ) {after : List ℕ} {s : State} {rows : List (List ℕ)} {t : Replayed} {before next : Page} → s ≡ state_from payload → rows ≡ rows_from payload
     → (t ≡ replay_of (machine s rows) (take (length payload - 29) (drop 29 payload)) (length buffer)) × (after ≡ replay_writes (machine s rows) (take (length payload - 29) (drop 29 payload)) buffer)
-    → Wrote before (replayed_text t after) next → Wrote before (replay_text payload buffer) next
+    → Put before (replayed_text t after) next → Put before (replay_text payload buffer) next
 replayed_by payload buffer es er e w =
     let m = two machine es er in
     let c = part_all 29 payload in

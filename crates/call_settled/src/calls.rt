@@ -1,7 +1,9 @@
 // O: to which heads something is on its way.
 ghost use Rattle.std.specs.Prelude.{◌≡◌};
-ghost use Rattle.text.specs.Page.{page, Wrote};
+ghost use Rattle.text.specs.Page.{Put};
 ghost use Rattle.call_settled.specs.Calls.{digit_for, heads_text, ahead_line};
+
+use text::Page;
 
 fn digit_for(on: bool) -> u8
     ensures { result ≡ digit_for on }
@@ -9,21 +11,20 @@ fn digit_for(on: bool) -> u8
     b'0' + u8::from(on)
 }
 
-fn put_heads(out: &mut [u8], heads: [bool; 4]) -> usize
-    ensures { Wrote (page out.old 0) (heads_text heads) (page out.new result) }
+fn put_heads(page: &mut Page, heads: [bool; 4])
+    ensures { Put page.old (heads_text heads) page.new }
 {
-    let digits = heads.map(digit_for);
-    let next = text::put_text(out, 0, &digits);
-    text::put_byte(out, next, b'\n')
+    page.put_text(&heads.map(digit_for));
+    page.put_byte(b'\n');
 }
 
-pub fn put_ahead(out: &mut [u8], payload: &[u8]) -> usize
-    ensures { Wrote (page out.old 0) (ahead_line payload.now) (page out.new result) }
+pub fn put_ahead(page: &mut Page, payload: &[u8])
+    ensures { Put page.old (ahead_line payload.now) page.new }
 {
     if payload.len() != 25 {
-        return text::put_text(out, 0, b"malformed\n");
+        return page.put_text(b"malformed\n");
     }
     let s = image::state_from(payload);
     let rows = image::rows_from(payload);
-    put_heads(out, settled::on_its_way(s, rows))
+    put_heads(page, settled::on_its_way(s, rows));
 }

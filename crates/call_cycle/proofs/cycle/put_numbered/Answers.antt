@@ -6,7 +6,7 @@ use Rattle.call_cycle.proofs.cycle.put_numbered.Goals as goal
 
 pub returns : goal.returns
 returns c =
-    spelt c.put_number-a.ensures (ap number_text c.from.ensures)
-    then c.put_state-b.ensures
-    then c.put_byte-c.ensures
+    spelt c.put_number.ensures (ap number_text c.from.ensures)
+    then c.put_state.ensures
+    then c.put_byte.ensures
     then spelt c.put_hex.ensures (ap hexes c.answer_bytes-answer.ensures)

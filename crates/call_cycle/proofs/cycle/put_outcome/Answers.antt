@@ -6,5 +6,5 @@ use Rattle.call_cycle.proofs.cycle.put_outcome.Goals as goal
 
 pub returns-in-Won : goal.returns-in-Won
 returns-in-Won c =
-    spelt (spelt c.put_decimal-next.ensures (ap decimal c.from.ensures) then c.put_byte-after.ensures then spelt c.put_decimal.ensures (ap decimal c.from-in-Won.ensures))
+    spelt (spelt c.put_decimal.ensures (ap decimal c.from.ensures) then c.put_byte-in-Won.ensures then spelt c.put_decimal-in-Won.ensures (ap decimal c.from-in-Won.ensures))
     (ap outcome_text (sym c.in-Won.is))

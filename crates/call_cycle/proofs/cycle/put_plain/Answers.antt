@@ -11,7 +11,7 @@ returns c =
     let t = cycle_answer c.args.t in
     let moved : gate_answer c.map.result ≡ without_report t = search rules in
     let report : c.map_or.result ≡ t.report = search rules in
-    spelt c.put_moved-a.ensures (ap cycled_text moved)
-    then c.put_byte-b.ensures
-    then spelt c.put_report-c.ensures (ap report_text report)
+    spelt c.put_moved.ensures (ap cycled_text moved)
     then c.put_byte.ensures
+    then spelt c.put_report.ensures (ap report_text report)
+    then c.put_byte-2.ensures

@@ -4,4 +4,4 @@ use Rattle.parts.specs.Parts.{number_text}
 use Rattle.call_replay.proofs.state.put_machine.Goals as goal
 
 pub returns : goal.returns
-returns c = spelt c.put_number-a.ensures (ap number_text c.from.ensures) then c.put_state-b.ensures then c.put_byte.ensures
+returns c = spelt c.put_number.ensures (ap number_text c.from.ensures) then c.put_state.ensures then c.put_byte.ensures

@@ -10,5 +10,5 @@ use Rattle.call_settled.proofs.calls.put_heads.Goals as goal
 
 pub returns : goal.returns
 returns c =
-    let digits : c.map-digits.result ≡ four (λ h. digit_for (get_or c.args.heads h false)) = grind (arith, common_steps) in
-    spelt c.put_text-next.ensures digits then c.put_byte.ensures
+    let digits : c.map.result ≡ four (λ h. digit_for (get_or c.args.heads h false)) = grind (arith, common_steps) in
+    spelt c.put_text.ensures digits then c.put_byte.ensures
