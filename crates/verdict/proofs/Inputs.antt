@@ -2,7 +2,8 @@
 use Rattle.std.proofs.Common.{◌≡◌, ℕ, ◌≤◌, Bool, true, List, length, take, Option, is_none, sym, ap, ◌∙◌}
 use Rattle.std.proofs.lemmas.List.{take-replicate}
 use lib.ListN.{length-replicate}
-use Rattle.text.specs.Page.{Page, Wrote}
+use Rattle.text.specs.declared.page.Page.{Page}
+use Rattle.text.specs.Page.{Put}
 use Rattle.text.proofs.Pages.{spelt}
 use Rattle.fabric.specs.Run.{reset_machine}
 use Rattle.capture.specs.Replay.{replay_of, replay_writes}
@@ -30,8 +31,8 @@ module _ (said : List ℕ → List ℕ) where
         ∙ ap (λ (l : List ℕ). outcome_text said (replay_of reset_machine capture (length capture)).number (replay_of reset_machine capture (length capture)).index (replay_writes reset_machine capture l)) e
 
   pub both_said : (capture plain gates whole : List ℕ) {agreed : Bool} {before after : Page} → plain ≡ zeros (length capture) → gates ≡ zeros (length capture) → capture ≡ whole
-      → (agreed ≡ is_none (both_of capture plain gates).difference) × Wrote before (verdict_of said (both_of capture plain gates) (replay_writes reset_machine capture plain)) after
-      → (agreed ≡ true) × Wrote before (printed_by said whole) after
+      → (agreed ≡ is_none (both_of capture plain gates).difference) × Put before (verdict_of said (both_of capture plain gates) (replay_writes reset_machine capture plain)) after
+      → (agreed ≡ true) × Put before (printed_by said whole) after
   both_said capture plain gates whole ep eg ew w =
       let same : gates ≡ plain = eg ∙ sym ep in (
         w.0 ∙ ap (λ (g : List ℕ). is_none (both_of capture plain g).difference) same ∙ both_same capture plain ep,

@@ -1,7 +1,8 @@
 -- What is said of two replays. Assumes nothing.
 use Rattle.std.proofs.Common.{◌≡◌, ℕ, Bool, true, false, List, Option, Some, None, is_none, Result, Ok, Err, sym, ap, ◌∙◌}
 use borrow.Author.Tests.{eq-eqb, ne_eqb}
-use Rattle.text.specs.Page.{Page, Wrote}
+use Rattle.text.specs.declared.page.Page.{Page}
+use Rattle.text.specs.Page.{Put}
 use Rattle.text.proofs.Pages.{spelt}
 use Rattle.routing.proofs.Equal.{two}
 use Rattle.states.specs.declared.refusal.Refusal.{Refusal}
@@ -10,8 +11,7 @@ use Rattle.states.proofs.Refusals.{never_0}
 use Rattle.listing.specs.Refusal.{refusal_line}
 use Rattle.comparison.specs.Both.{Both, place_in, index_given}
 use Rattle.comparison.proofs.Inputs.{given_again}
-use Rattle.verdict.specs.declared.said.Disagreement.{Disagreement}
-use Rattle.verdict.specs.Verdict.{outcome_text, differ_text, unless_differ, verdict_of, VerdictTold}
+use Rattle.verdict.specs.Verdict.{outcome_text, differ_text, unless_differ, verdict_of}
 
 module _ (said : List ℕ → List ℕ) where
   module _ (number index : ℕ) (answers : List ℕ) where
@@ -36,25 +36,16 @@ module _ (said : List ℕ → List ℕ) where
     text d = unless_differ d (outcome_text said b.number b.index answers)
 
     module _ {before after : Page} where
-      pub said_same : b.difference ≡ None → Wrote before (outcome_text said b.number b.index answers) after → (true ≡ is_none b.difference) × Wrote before (verdict_of said b answers) after
+      pub said_same : b.difference ≡ None → Put before (outcome_text said b.number b.index answers) after → (true ≡ is_none b.difference) × Put before (verdict_of said b answers) after
       said_same told w = (ap is_none (sym told), spelt w (ap text (sym told)))
 
-      pub said_differ : {k : ℕ} → b.difference ≡ Some k → Wrote before (differ_text k) after → (false ≡ is_none b.difference) × Wrote before (verdict_of said b answers) after
+      pub said_differ : {k : ℕ} → b.difference ≡ Some k → Put before (differ_text k) after → (false ≡ is_none b.difference) × Put before (verdict_of said b answers) after
       said_differ told w = (ap is_none (sym told), spelt w (ap text (sym told)))
 
   -- the same is said of equal replays
   pub said_of : {b b' : Both} {x x' : List ℕ} {agreed : Bool} {before after : Page} → b ≡ b' → x ≡ x'
-      → (agreed ≡ is_none b.difference) × Wrote before (verdict_of said b x) after
-      → (agreed ≡ is_none b'.difference) × Wrote before (verdict_of said b' x') after
+      → (agreed ≡ is_none b.difference) × Put before (verdict_of said b x) after
+      → (agreed ≡ is_none b'.difference) × Put before (verdict_of said b' x') after
   said_of {b = b} {b' = b'} {x = x} {x' = x'} eb ex w =
       let t : verdict_of said b x ≡ verdict_of said b' x' = cc in
       (w.0 ∙ ap (λ (y : Both). is_none y.difference) eb, spelt w.1 t)
-
-abbrev differing : ℕ → Result ℕ Disagreement
-differing n = Err (record { length = n })
-
-pub verdict_told : VerdictTold
-verdict_told (Ok n) (Ok m) a l = ap Ok l
-verdict_told (Ok n) (Err e) a l = absurd (cc)
-verdict_told (Err d) (Ok m) a l = absurd (cc)
-verdict_told (Err d) (Err e) a l = ap differing l

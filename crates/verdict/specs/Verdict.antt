@@ -1,5 +1,5 @@
 -- What is said of both engines' replays: something of the answers, or the refusal line; where the two differ, where they do.
-use Rattle.std.specs.Prelude.{◌≡◌, Bool, true, false, cond, List, ◌++◌, Option, Some, None, ℕ, eqb, Result, Ok, Err}
+use Rattle.std.specs.Prelude.{Bool, cond, List, ◌++◌, Option, Some, None, ℕ, eqb}
 use Rattle.text.specs.Ascii.{ascii}
 use Rattle.text.specs.Digits.{decimal}
 use Rattle.input.specs.declared.streams.Stream.{Stream}
@@ -7,7 +7,6 @@ use Rattle.input.specs.declared.streams.Stream.TheVariants.{Output, Error}
 use Rattle.listing.specs.Listing.{listing}
 use Rattle.listing.specs.Refusal.{refusal_line}
 use Rattle.comparison.specs.Both.{Both, index_given}
-use Rattle.verdict.specs.declared.said.Disagreement.{Disagreement}
 
 -- of a replay that is done what `said` makes of its answers, otherwise the refusal line
 unfoldable pub outcome_text : (List ℕ → List ℕ) → ℕ → ℕ → List ℕ → List ℕ
@@ -26,19 +25,6 @@ verdict_of said b answers = unless_differ b.difference (outcome_text said b.numb
 -- the program replay lists the answers
 abbrev pub verdict_text : Both → List ℕ → List ℕ
 verdict_text = verdict_of listing
-
--- whether the engines agree, and how many bytes of text there are
-abbrev pub agreed_in : Result ℕ Disagreement → Bool
-agreed_in (Ok n) = true
-agreed_in (Err d) = false
-
-abbrev pub length_in : Result ℕ Disagreement → ℕ
-length_in (Ok n) = n
-length_in (Err d) = d.length
-
--- The two tell a verdict.
-abbrev pub VerdictTold : Type 0
-VerdictTold = (v w : Result ℕ Disagreement) → agreed_in v ≡ agreed_in w → length_in v ≡ length_in w → v ≡ w
 
 -- where a program puts the text: on standard output, or where the engines differ on standard error, so that nothing stands on standard output
 abbrev pub stream_of : Bool → Stream

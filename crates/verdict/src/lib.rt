@@ -6,4 +6,4 @@ mod program;
 mod said;
 
 pub use program::replay_by_both;
-pub use said::{Disagreement, put_verdict, stream};
+pub use said::{put_verdict, stream};

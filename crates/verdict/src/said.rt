@@ -1,48 +1,47 @@
 // What is said of both engines' replays of one capture.
 ghost use Rattle.std.specs.Prelude.{◌≡◌, is_none};
-ghost use Rattle.text.specs.Page.{page, Wrote};
+ghost use Rattle.text.specs.Page.{Put};
 ghost use Rattle.states.specs.Refusal.{number_in};
 ghost use Rattle.listing.specs.Listing.{listing};
 ghost use Rattle.comparison.specs.Both.{told, place_in};
-ghost use Rattle.verdict.specs.Verdict.{outcome_text, differ_text, verdict_text, agreed_in, length_in, stream_of};
+ghost use Rattle.verdict.specs.Verdict.{outcome_text, differ_text, verdict_text, stream_of};
 
 use comparison::Both;
 use input::Stream;
 use states::Refusal;
+use text::Page;
 
-// The two engines differ; so many bytes of text say where.
-#[derive(Clone, Copy, PartialEq, Eq)]
-pub struct Disagreement {
-    pub length: usize,
-}
-
-fn put_outcome(out: &mut [u8], outcome: Result<(), Refusal>, answers: &[u8]) -> usize
-    ensures { Wrote (page out.old 0) (outcome_text listing (number_in outcome) (place_in outcome) answers.now) (page out.new result) }
+fn put_outcome(page: &mut Page, outcome: Result<(), Refusal>, answers: &[u8])
+    ensures { Put page.old (outcome_text listing (number_in outcome) (place_in outcome) answers.now) page.new }
 {
     match outcome {
-        Ok(()) => listing::put_listing(out, 0, answers),
-        Err(why) => listing::put_refusal(out, 0, why.number(), why.index()),
+        Ok(()) => listing::put_listing(page, answers),
+        Err(why) => listing::put_refusal(page, why.number(), why.index()),
     }
 }
 
-fn put_difference(out: &mut [u8], k: usize) -> usize
-    ensures { Wrote (page out.old 0) (differ_text k) (page out.new result) }
+fn put_difference(page: &mut Page, k: usize)
+    ensures { Put page.old (differ_text k) page.new }
 {
-    let next = text::put_text(&mut *out, 0, b"engines differ at ");
-    let last = text::put_decimal(&mut *out, next, k as u64);
-    text::put_byte(out, last, b'\n')
+    page.put_text(b"engines differ at ");
+    page.put_decimal(k as u64);
+    page.put_byte(b'\n');
 }
 
-// How many bytes of text there are where the two agree. `answers` are those of the plain engine.
-pub fn put_verdict(out: &mut [u8], b: Both, answers: &[u8]) -> Result<usize, Disagreement>
-    ensures agreed { agreed_in result ≡ is_none b.difference }
-    ensures writes { Wrote (page out.old 0) (verdict_text (told b) answers.now) (page out.new (length_in result)) }
+// Whether the two agree. `answers` are those of the plain engine.
+pub fn put_verdict(page: &mut Page, b: Both, answers: &[u8]) -> bool
+    ensures agreed { result ≡ is_none b.difference }
+    ensures writes { Put page.old (verdict_text (told b) answers.now) page.new }
 {
     match b.difference {
-        None => Ok(put_outcome(out, b.outcome, answers)),
-        Some(k) => Err(Disagreement {
-            length: put_difference(out, k),
-        }),
+        None => {
+            put_outcome(page, b.outcome, answers);
+            true
+        }
+        Some(k) => {
+            put_difference(page, k);
+            false
+        }
     }
 }
 
