@@ -2,29 +2,32 @@
 use super::show;
 use comparison::Both;
 use routing::Input;
-use states::State;
+use states::{Machine, State};
+use text::Page;
 
 // By the rules three answers of zeros and the reset state; by the gates a byte of answer 2, and the phase.
 fn compared(rt: &HostRuntime, title: &[u8], byte: u8, waiting: bool) {
-    let s = State {
+    let state = State {
         waiting,
         shut: [true; 4],
-        holders: [Input(0), Input(0), Input(0), Input(0)],
+        holders: [Input(0); 4],
     };
     let rows = states::reset_rows();
-    let p = capture::handed_back(0, 0, states::reset_state(), rows);
-    let g = capture::handed_back(0, 0, s, rows);
+    let p = Ok(Machine {
+        state: states::reset_state(),
+        rows,
+    });
+    let g = Ok(Machine { state, rows });
     let plain = [0u8; 15];
     let gates = [0, 0, 0, 0, 0, 0, 0, 0, 0, 0, 0, 0, byte, 0, 0];
-    let mut page = show::blank_page();
     let b = Both {
-        number: p.number,
-        index: p.index,
+        outcome: Ok(()),
         difference: comparison::disagreement(p, g, &plain, &gates),
     };
-    let v = verdict::put_verdict(&mut page, b, &plain);
-    let n = v.length;
-    show::say(rt, title, b": ", &page, n);
+    let mut space = [0u8; 512];
+    let mut page = Page::new(&mut space);
+    verdict::put_verdict(&mut page, b, &plain);
+    show::say(rt, title, b": ", page.text());
 }
 
 pub(crate) fn made_up(rt: &HostRuntime) {

@@ -1,22 +1,12 @@
 // Lists of gate words handed to the evaluator: the words of document 01, and 10 to 13 at their edges and in their order.
-ghost use Rattle.std.specs.Prelude.{◌≡◌, ◌≤◌, length};
+ghost use Rattle.std.specs.Prelude.{◌≤◌};
 
 use super::show;
+use std::array;
 
 // Two words, high byte first.
-fn word_bytes(first: u32, second: u32) -> [u8; 8]
-    ensures { 8 ≡ length result }
-{
-    [
-        (first / 16777216) as u8,
-        (first / 65536 % 256) as u8,
-        (first / 256 % 256) as u8,
-        (first % 256) as u8,
-        (second / 16777216) as u8,
-        (second / 65536 % 256) as u8,
-        (second / 256 % 256) as u8,
-        (second % 256) as u8,
-    ]
+fn word_bytes(first: u32, second: u32) -> [u8; 8] {
+    (u64::from(first) << 32 | u64::from(second)).to_be_bytes()
 }
 
 fn part(rt: &HostRuntime, title: &[u8], inputs: u8, input: u16, words: [u8; 8], n: usize)
@@ -48,16 +38,8 @@ pub(crate) fn inputs(rt: &HostRuntime) {
 }
 
 // Words of 4 bytes, each a buffer of net 0.
-fn buffers() -> [u8; 512]
-    ensures { 512 ≡ length result }
-{
-    let mut words = show::blank_page();
-    let mut i: usize = 3;
-    while i < 512 {
-        words[i] = 1;
-        i += 4;
-    }
-    words
+fn buffers() -> [u8; 512] {
+    array::from_fn(|i| u8::from(i % 4 == 3))
 }
 
 fn buffered(rt: &HostRuntime, title: &[u8], inputs: u8, n: usize)

@@ -1,29 +1,23 @@
 // States handed in to a cycle, a replay and saving: 14, 7 and 8 at their edges and in their order, before all else; and 9.
-ghost use Rattle.std.specs.Prelude.{◌≡◌, length};
-
 use super::show;
 use routing::Input;
-use states::State;
+use states::{Machine, State};
 
 const OPEN: bool = false;
 
 const SHUT: bool = true;
 
 // Each output open or shut, the holders, and the second latches; all other bytes are zero.
-pub(crate) fn image(waiting: bool, shut: [bool; 4], holders: [u8; 4], second: [u8; 4]) -> [u8; 25]
-    ensures { 25 ≡ length result }
-{
-    let h0 = Input(holders[0]);
-    let h1 = Input(holders[1]);
-    let h2 = Input(holders[2]);
-    let h3 = Input(holders[3]);
-    let s = State {
+pub(crate) fn image(waiting: bool, shut: [bool; 4], holders: [u8; 4], second: [u8; 4]) -> [u8; 25] {
+    let holders = holders.map(Input);
+    let zeros = [0u8; 4];
+    let state = State {
         waiting,
         shut,
-        holders: [h0, h1, h2, h3],
+        holders,
     };
-    let zeros = [0u8; 4];
-    image::image_of(s, zeros, second, zeros, zeros)
+    let rows = [zeros, second, zeros, zeros];
+    image::image_of(Machine { state, rows })
 }
 
 // The record has every acknowledgement, and four bytes that ask nothing.

@@ -1,64 +1,53 @@
 // Captures about as long as a replay takes. Of these no buffer is printed, only `done` or the refusal line.
-ghost use Rattle.std.specs.Prelude.{◌≡◌, ◌≤◌, length};
+ghost use Rattle.std.specs.Prelude.{◌≤◌};
 
 use super::show;
-use capture::Replayed;
+use capture::{Engine, Rules};
+use engine::Gates;
+use states::{Machine, Refused};
+use text::Page;
 
 // 12,289 records and one byte.
-fn zeros() -> [u8; 61446]
-    ensures { 61446 ≡ length result }
-{
-    [0; 61446]
-}
+const LONGEST: usize = 61446;
 
-fn outcome(rt: &HostRuntime, title: &[u8], how: &[u8], t: Replayed) {
-    if t.number == 0 {
-        show::say(rt, title, how, b"done\n", 5);
-        return;
+fn outcome(rt: &HostRuntime, title: &[u8], how: &[u8], t: Result<Machine, Refused>) {
+    let mut space = [0u8; 512];
+    let mut page = Page::new(&mut space);
+    match t {
+        Ok(_) => page.put_text(b"done\n"),
+        Err(refused) => {
+            listing::put_refusal(&mut page, refused.why.number(), refused.why.index());
+        }
     }
-    let mut page = show::blank_page();
-    let n = listing::put_refusal(&mut page, 0, t.number, t.index);
-    show::say(rt, title, how, &page, n);
+    show::say(rt, title, how, page.text());
 }
 
-fn by_rules(rt: &HostRuntime, title: &[u8], bytes: &[u8], room: usize)
+fn by<E: Engine>(engine: &E, rt: &HostRuntime, title: &[u8], how: &[u8], bytes: &[u8], room: usize)
     requires { room ≤ 61446 }
 {
-    let mut answers = zeros();
+    let mut answers = [0u8; LONGEST];
     let t = capture::replay(
+        engine,
         states::reset_state(),
         states::reset_rows(),
         bytes,
         &mut answers[..room],
     );
-    outcome(rt, title, b", replayed by the rules: ", t);
-}
-
-fn by_gates(rt: &HostRuntime, title: &[u8], bytes: &[u8], room: usize)
-    requires { room ≤ 61446 }
-{
-    let mut answers = zeros();
-    let t = engine::replay(
-        states::reset_state(),
-        states::reset_rows(),
-        bytes,
-        &mut answers[..room],
-    );
-    outcome(rt, title, b", replayed by the gates: ", t);
+    outcome(rt, title, how, t);
 }
 
 fn by_both(rt: &HostRuntime, title: &[u8], bytes: &[u8], room: usize)
     requires { room ≤ 61446 }
 {
-    by_rules(rt, title, bytes, room);
-    by_gates(rt, title, bytes, room);
+    by(&Rules, rt, title, b", replayed by the rules: ", bytes, room);
+    by(&Gates, rt, title, b", replayed by the gates: ", bytes, room);
 }
 
 // A capture of n bytes, zeros but for byte 0 of record 12,287, with an answer buffer of `room` bytes.
 fn replayed(rt: &HostRuntime, title: &[u8], last: u8, n: usize, room: usize)
     requires { (n ≤ 61446) × (room ≤ 61446) }
 {
-    let mut bytes = zeros();
+    let mut bytes = [0u8; LONGEST];
     bytes[61435] = last;
     by_both(rt, title, &bytes[..n], room);
 }

@@ -1,68 +1,41 @@
 // A line for each try: its title, and what a proved call made of it.
-ghost use Rattle.std.specs.Prelude.{◌≡◌, ◌++◌, ◌≤◌, length};
-ghost use Rattle.text.specs.Page.{page, Wrote};
-
+use capture::Rules;
+use engine::Gates;
 use input::Stream;
+use states::Machine;
+use text::Page;
 
-// Room for the longest line, and for all that a call is asked by.
-pub(crate) fn blank_page() -> [u8; 512]
-    ensures { 512 ≡ length result }
-{
-    [0; 512]
-}
-
-// The first n bytes of a page, behind a title.
-pub(crate) fn say(rt: &HostRuntime, title: &[u8], how: &[u8], page: &[u8], n: usize)
-    requires { n ≤ length page.now }
-{
+// A line that ends in this text.
+pub(crate) fn say(rt: &HostRuntime, title: &[u8], how: &[u8], text: &[u8]) {
     let a = input::write_all(rt, Stream::Output, title);
     let b = input::write_all(rt, Stream::Output, how);
-    let c = input::write_all(rt, Stream::Output, &page[..n]);
+    let c = input::write_all(rt, Stream::Output, text);
     if a.is_err() | b.is_err() | c.is_err() {
         let _ = input::write_all(rt, Stream::Error, b"cannot write the line\n");
     }
 }
 
-#[derive(Clone, Copy)]
-enum Call {
-    Cycle,
-    GateCycle,
-    Replay,
-    GateReplay,
-    Save,
-    TakeUp,
-    Evaluate,
-}
-
-fn put(out: &mut [u8], call: Call, asked: &[u8]) -> usize
-    ensures { result ≤ length out.new }
-{
-    match call {
-        Call::Cycle => call_cycle::put_cycle(out, asked, false),
-        Call::GateCycle => call_cycle::put_cycle(out, asked, true),
-        Call::Replay => call_replay::put_replay(out, asked, false),
-        Call::GateReplay => call_replay::put_replay(out, asked, true),
-        Call::Save => call_replay::put_save(out, asked),
-        Call::TakeUp => call_replay::put_take_up(out, asked),
-        Call::Evaluate => call_gates::put_evaluate(out, asked),
-    }
-}
-
-fn join(out: &mut [u8], a: &[u8], b: &[u8], c: &[u8]) -> usize
-    ensures { Wrote (page out.old 0) (a.now ++ b.now ++ c.now) (page out.new result) }
-{
-    let x = text::put_text(&mut *out, 0, a);
-    let y = text::put_text(&mut *out, x, b);
-    text::put_text(out, y, c)
-}
-
 // A call that is asked by three parts, one behind the other.
-fn ask(rt: &HostRuntime, title: &[u8], how: &[u8], call: Call, a: &[u8], b: &[u8], c: &[u8]) {
-    let mut asked = blank_page();
-    let n = join(&mut asked, a, b, c);
-    let mut page = blank_page();
-    let m = put(&mut page, call, &asked[..n]);
-    say(rt, title, how, &page, m);
+fn ask<F: FnOnce(&mut Page, &[u8])>(
+    rt: &HostRuntime,
+    title: &[u8],
+    how: &[u8],
+    call: F,
+    a: &[u8],
+    b: &[u8],
+    c: &[u8],
+)
+    requires { F.IsAlwaysCallable call }
+{
+    let mut space = [0u8; 512];
+    let mut asked = Page::new(&mut space);
+    asked.put_text(a);
+    asked.put_text(b);
+    asked.put_text(c);
+    let mut room = [0u8; 512];
+    let mut page = Page::new(&mut room);
+    call(&mut page, asked.text());
+    say(rt, title, how, page.text());
 }
 
 pub(crate) fn cycled(rt: &HostRuntime, title: &[u8], image: &[u8], record: &[u8]) {
@@ -70,7 +43,7 @@ pub(crate) fn cycled(rt: &HostRuntime, title: &[u8], image: &[u8], record: &[u8]
         rt,
         title,
         b", one cycle by the rules: ",
-        Call::Cycle,
+        |page: &mut Page, asked: &[u8]| call_cycle::put_cycle(page, asked),
         image,
         record,
         b"",
@@ -79,7 +52,7 @@ pub(crate) fn cycled(rt: &HostRuntime, title: &[u8], image: &[u8], record: &[u8]
         rt,
         title,
         b", one cycle by the gates: ",
-        Call::GateCycle,
+        |page: &mut Page, asked: &[u8]| call_cycle::put_gate_cycle(page, asked),
         image,
         record,
         b"",
@@ -99,7 +72,7 @@ pub(crate) fn replayed_from(
         rt,
         title,
         b", replayed by the rules: ",
-        Call::Replay,
+        |page: &mut Page, asked: &[u8]| call_replay::put_replay(&Rules, page, asked),
         image,
         &length,
         capture,
@@ -108,7 +81,7 @@ pub(crate) fn replayed_from(
         rt,
         title,
         b", replayed by the gates: ",
-        Call::GateReplay,
+        |page: &mut Page, asked: &[u8]| call_replay::put_replay(&Gates, page, asked),
         image,
         &length,
         capture,
@@ -116,9 +89,11 @@ pub(crate) fn replayed_from(
 }
 
 pub(crate) fn replayed(rt: &HostRuntime, title: &[u8], room: u8, capture: &[u8]) {
-    let zeros = [0u8; 4];
-    let image = image::image_of(states::reset_state(), zeros, zeros, zeros, zeros);
-    replayed_from(rt, title, &image, room, capture);
+    let reset = Machine {
+        state: states::reset_state(),
+        rows: states::reset_rows(),
+    };
+    replayed_from(rt, title, &image::image_of(reset), room, capture);
 }
 
 // A state into a buffer of `room` bytes.
@@ -127,7 +102,7 @@ pub(crate) fn saved(rt: &HostRuntime, title: &[u8], image: &[u8], room: u8) {
         rt,
         title,
         b", saved: ",
-        Call::Save,
+        |page: &mut Page, asked: &[u8]| call_replay::put_save(page, asked),
         image,
         &[0, 0, 0, room],
         b"",
@@ -135,22 +110,26 @@ pub(crate) fn saved(rt: &HostRuntime, title: &[u8], image: &[u8], room: u8) {
 }
 
 pub(crate) fn taken_up(rt: &HostRuntime, title: &[u8], bytes: &[u8]) {
-    ask(rt, title, b", taken up: ", Call::TakeUp, bytes, b"", b"");
+    ask(
+        rt,
+        title,
+        b", taken up: ",
+        |page: &mut Page, asked: &[u8]| call_replay::put_take_up(page, asked),
+        bytes,
+        b"",
+        b"",
+    );
 }
 
 // Gate words over so many block inputs, whose bits are those of `input`.
 pub(crate) fn evaluated(rt: &HostRuntime, title: &[u8], inputs: u8, input: u16, words: &[u8]) {
-    let high = (input / 256) as u8;
-    let low = (input % 256) as u8;
-    let count = [0, 0, 0, 0, 0, 0, 0, inputs];
-    let bits = [0, 0, 0, 0, 0, 0, high, low];
     ask(
         rt,
         title,
         b", evaluated: ",
-        Call::Evaluate,
-        &count,
-        &bits,
+        |page: &mut Page, asked: &[u8]| call_gates::put_evaluate(page, asked),
+        &u64::from(inputs).to_be_bytes(),
+        &u64::from(input).to_be_bytes(),
         words,
     );
 }

@@ -7,8 +7,7 @@ use super::show;
 fn bytes(rt: &HostRuntime, title: &[u8], n: usize, word: u16)
     requires { n ≤ 19 }
 {
-    let high = (word / 256) as u8;
-    let low = (word % 256) as u8;
+    let [high, low] = word.to_be_bytes();
     let all = [high, low, 0, 0, 0, 0, 0, 0, 0, 0, 0, 0, 0, 0, 0, 0, 0, 0, 0];
     show::taken_up(rt, title, &all[..n]);
 }
