@@ -1,11 +1,12 @@
 -- What the two calls leave in the lent buffer. Assumes nothing.
-use mathlib.Core.Path.{◌≡◌, sym, ap, ◌∙◌}
+use mathlib.Core.Path.{◌≡◌, sym, ap, subst, ◌∙◌}
 use mathlib.Core.List.{List, ◌++◌}
 use Prim.Native.Nat.{ℕ, ◌-◌, ◌*◌, ◌<◌, ◌≤◌}
 use native.Mathlib.Omega.{arith}
 use lib.ListN.{length, drop}
 use borrow.Author.Tests.{le-leb, lt-leb, eq-eqb, ne_eqb}
-use Rattle.text.specs.Page.{page, Wrote}
+use Rattle.text.specs.declared.page.Page.{Page as Sheet}
+use Rattle.text.specs.Page.{Page, page, Wrote, Blank, Put}
 use Rattle.routing.proofs.Equal.{two}
 use Rattle.text.proofs.Room.{stands, behind_it}
 use Rattle.plans.specs.Plan.{Plan, te}
@@ -15,6 +16,11 @@ use Rattle.frames.specs.Reading.{sent_by, sent_from, rows_sent, from_header, col
 use Rattle.frames.proofs.Lists.{listed_length}
 use Rattle.frames.proofs.Writes.{records_length}
 use Rattle.plans.proofs.Refusals.{taken}
+
+-- a text put onto a page made over these bytes
+pub from_start : {bytes text : List ℕ} {s t : Sheet} → Blank bytes s → Put s text t → Wrote (page bytes 0) text (page t.bytes.now t.place)
+from_start {text = text} {t = t} blank w =
+    subst (λ (q : Page). Wrote q text (page t.bytes.now t.place)) (two page blank.bytes_are blank.at_start) w.wrote
 
 -- a frame, written or refused
 module _ (p : Plan) (buffer : List ℕ) {n : ℕ} (is : n ≡ write_refusal p (length buffer)) where
