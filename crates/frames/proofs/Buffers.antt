@@ -1,12 +1,12 @@
 -- What the two calls leave in the lent buffer. Assumes nothing.
-use mathlib.Core.Path.{◌≡◌, sym, ap, subst, ◌∙◌}
+use mathlib.Core.Path.{◌≡◌, sym, ap, ◌∙◌}
 use mathlib.Core.List.{List, ◌++◌}
 use Prim.Native.Nat.{ℕ, ◌-◌, ◌*◌, ◌<◌, ◌≤◌}
 use native.Mathlib.Omega.{arith}
 use lib.ListN.{length, drop}
 use borrow.Author.Tests.{le-leb, lt-leb, eq-eqb, ne_eqb}
 use Rattle.text.specs.declared.page.Page.{Page as Sheet}
-use Rattle.text.specs.Page.{Page, page, Wrote, Blank, Put}
+use Rattle.text.specs.Page.{Page, page, puts, Wrote, Blank, Put}
 use Rattle.routing.proofs.Equal.{two}
 use Rattle.text.proofs.Room.{stands, behind_it}
 use Rattle.plans.specs.Plan.{Plan, te}
@@ -17,10 +17,11 @@ use Rattle.frames.proofs.Lists.{listed_length}
 use Rattle.frames.proofs.Writes.{records_length}
 use Rattle.plans.proofs.Refusals.{taken}
 
--- a text put onto a page made over these bytes
-pub from_start : {bytes text : List ℕ} {s t : Sheet} → Blank bytes s → Put s text t → Wrote (page bytes 0) text (page t.bytes.now t.place)
-from_start {text = text} {t = t} blank w =
-    subst (λ (q : Page). Wrote q text (page t.bytes.now t.place)) (two page blank.bytes_are blank.at_start) w.wrote
+-- a text put onto a page made over lent bytes, by what the bytes are in the end
+pub from_start : {bytes text last : List ℕ} {s t : Sheet} → Blank bytes s → Put s text t → last ≡ t.bytes.now → Wrote (page bytes 0) text (page last t.place)
+from_start {bytes = bytes} {text = text} {t = t} blank w ends = record {
+  left = ap (λ (l : List ℕ). page l t.place) ends ∙ w.wrote.left ∙ ap (λ (q : Page). puts q text) (two page blank.bytes_are blank.at_start);
+}
 
 -- a frame, written or refused
 module _ (p : Plan) (buffer : List ℕ) {n : ℕ} (is : n ≡ write_refusal p (length buffer)) where

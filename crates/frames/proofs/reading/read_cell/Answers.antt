@@ -1,5 +1,4 @@
-use Rattle.std.proofs.Common.{◌≡◌, rules}
-use Rattle.frames.specs.Reading.{cell_writes}
+use Rattle.std.proofs.Common.{rules}
 use Rattle.frames.proofs.Buffers.{cell_bytes, cell_copied, cell_left, from_start}
 use Rattle.frames.proofs.reading.read_cell.Goals as goal
 
@@ -11,10 +10,7 @@ returns-then-n-out c =
     let a = c.args in
     let h = c.header_record-at in
     let e = c.cell_end-end in
-    let put = c.put_sent in
-    let copied : put.new.page.bytes.now ≡ cell_writes a.frame.now a.input a.out.now =
-    cell_copied _ _ h.result e.result h.ensures e.ensures.1 c.if-n-out.true (from_start c.new.ensures.blank put.ensures) in
-    record { bytes = cell_bytes a.frame.now a.input h.result e.result h.ensures e.ensures.1; writes = search (rules, copied) }
+    record { bytes = cell_bytes a.frame.now a.input h.result e.result h.ensures e.ensures.1; writes = cell_copied a.frame.now a.input h.result e.result h.ensures e.ensures.1 c.if-n-out.true (from_start c.new.ensures.blank c.put_sent.ensures (search rules)) }
 
 pub returns-else-n-out : goal.returns-else-n-out
 returns-else-n-out c =
