@@ -5,7 +5,8 @@ use Prim.Native.Nat.{ℕ, ◌-◌, ◌*◌, ◌<◌, ◌≤◌}
 use native.Mathlib.Omega.{arith}
 use lib.ListN.{length, drop}
 use borrow.Author.Tests.{le-leb, lt-leb, eq-eqb, ne_eqb}
-use Rattle.text.specs.Page.{page, Wrote}
+use Rattle.text.specs.declared.page.Page.{Page as Sheet}
+use Rattle.text.specs.Page.{Page, page, puts, Wrote, Blank, Put}
 use Rattle.routing.proofs.Equal.{two}
 use Rattle.text.proofs.Room.{stands, behind_it}
 use Rattle.plans.specs.Plan.{Plan, te}
@@ -15,6 +16,12 @@ use Rattle.frames.specs.Reading.{sent_by, sent_from, rows_sent, from_header, col
 use Rattle.frames.proofs.Lists.{listed_length}
 use Rattle.frames.proofs.Writes.{records_length}
 use Rattle.plans.proofs.Refusals.{taken}
+
+-- a text put onto a page made over lent bytes, by what the bytes are in the end
+pub from_start : {bytes text last : List ℕ} {s t : Sheet} → Blank bytes s → Put s text t → last ≡ t.bytes.now → Wrote (page bytes 0) text (page last t.place)
+from_start {bytes = bytes} {text = text} {t = t} blank w ends = record {
+  left = ap (λ (l : List ℕ). page l t.place) ends ∙ w.wrote.left ∙ ap (λ (q : Page). puts q text) (two page blank.bytes_are blank.at_start);
+}
 
 -- a frame, written or refused
 module _ (p : Plan) (buffer : List ℕ) {n : ℕ} (is : n ≡ write_refusal p (length buffer)) where

@@ -6,7 +6,8 @@ use native.Mathlib.Numerals.{add-one}
 use native.Mathlib.Omega.{arith}
 use lib.ListN.{length, length-append}
 use borrow.Author.Tests.{lt-ltb, le-ltb}
-use Rattle.text.specs.Page.{Page, Wrote}
+use Rattle.text.specs.declared.page.Page.{Page as Sheet}
+use Rattle.text.specs.Page.{Put}
 use Rattle.text.proofs.Pages.{◌then◌, spelt, nothing}
 use Rattle.records.specs.Record.{byte_at, record_of}
 use Rattle.plans.specs.Plan.{Plan, sent_of, inputs_of}
@@ -20,11 +21,11 @@ pub sending : (first : ℕ) (cell : List ℕ) (k : ℕ) → first ≤ k → byte
 sending first cell k h = rw (le-ltb _ _ h)
 
 module _ (p : Plan) where
-  pub none_yet : (q : Page) → Wrote q (records_of p 0) q
+  pub none_yet : (q : Sheet) → Put q (records_of p 0) q
   unfolding records_of
   none_yet q = nothing q
 
-  pub one_more : (k : ℕ) {q r s : Page} {five : List ℕ} → Wrote q (records_of p k) r → five ≡ record_of (inputs_of p k) → Wrote r five s → Wrote q (records_of p (k + 1)) s
+  pub one_more : (k : ℕ) {q r s : Sheet} {five : List ℕ} → Put q (records_of p k) r → five ≡ record_of (inputs_of p k) → Put r five s → Put q (records_of p (k + 1)) s
   unfolding records_of
   one_more k so_far e next =
       spelt (so_far then next) (ap (λ (l : List ℕ). records_of p k ++ l) e ∙ ap (records_of p) (sym (add-one k)))

@@ -1,10 +1,11 @@
 // The cells in a frame's records.
 ghost use Rattle.std.specs.Prelude.{◌≡◌, length, ◌-◌, ◌≤◌};
-ghost use Rattle.text.specs.Page.{page, Wrote};
+ghost use Rattle.text.specs.Page.{Put};
 ghost use Rattle.places.specs.Capture.{inputs_in};
 ghost use Rattle.frames.specs.Reading.{sent_by, sent_from, rows_sent, from_header, column_of, as_cell, cell_in, cell_writes};
 
 use fabric::Inputs;
+use text::Page;
 
 fn inputs_at(frame: &[u8], k: usize) -> Inputs
     ensures { result ≡ inputs_in frame.now k }
@@ -48,14 +49,12 @@ fn cell_end(frame: &[u8], at: usize, input: usize) -> usize
     at
 }
 
-fn put_sent(out: &mut [u8], frame: &[u8], at: usize, end: usize, input: usize) -> usize
-    ensures { Wrote (page out.old 0) (sent_from frame.now input at (end - at)) (page out.new result) }
+fn put_sent(page: &mut Page, frame: &[u8], at: usize, end: usize, input: usize)
+    ensures { Put page.old (sent_from frame.now input at (end - at)) page.new }
 {
-    let mut next: usize = 0;
     for k in at..end {
-        next = text::put_byte(&mut *out, next, sent_at(frame, k, input));
+        page.put_byte(sent_at(frame, k, input));
     }
-    next
 }
 
 // Writes an input's cell, if the buffer has room for all of it, and answers how many bytes the cell has. 0 bytes are no cell.
@@ -67,7 +66,7 @@ pub fn read_cell(out: &mut [u8], frame: &[u8], input: usize) -> usize
     let end = cell_end(frame, at, input);
     let n = end - at;
     if n <= out.len() {
-        put_sent(out, frame, at, end, input);
+        put_sent(&mut Page::new(out), frame, at, end, input);
     }
     n
 }

@@ -1,6 +1,6 @@
 // A frame's records, written at the start of a lent buffer.
 ghost use Rattle.std.specs.Prelude.{◌≡◌, length};
-ghost use Rattle.text.specs.Page.{page, Wrote};
+ghost use Rattle.text.specs.Page.{Put};
 ghost use Rattle.records.specs.Record.{record_of};
 ghost use Rattle.plans.specs.Plan.{sent_of, inputs_of};
 ghost use Rattle.plans.specs.Meant.{meant};
@@ -10,6 +10,7 @@ ghost use Rattle.frames.specs.Writing.{frame_records, frame_writes};
 
 use fabric::Inputs;
 use plans::{Plan, Refusal};
+use text::Page;
 
 // What an input with this cell sends in cycle k, with the headers in cycle `first`.
 fn sent(first: usize, cell: &[u8], k: usize) -> u8
@@ -29,15 +30,12 @@ fn record_in(plan: &Plan, k: usize) -> [u8; 5]
     })
 }
 
-fn put_records(out: &mut [u8], plan: &Plan) -> usize
-    ensures { Wrote (page out.old 0) (frame_records (meant plan.now)) (page out.new result) }
+fn put_records(page: &mut Page, plan: &Plan)
+    ensures { Put page.old (frame_records (meant plan.now)) page.new }
 {
-    let mut next: usize = 0;
     for k in 0..usize::from(plan.cycles) {
-        let five = record_in(plan, k);
-        next = text::put_text(&mut *out, next, &five);
+        page.put_text(&record_in(plan, k));
     }
-    next
 }
 
 // Writes the records of one frame, 5 bytes for each of its cycles; or refuses and writes nothing.
@@ -46,6 +44,6 @@ pub fn write_frame(out: &mut [u8], plan: &Plan) -> Result<(), Refusal>
     ensures writes { out.new ≡ frame_writes (meant plan.now) out.old }
 {
     plan.check(out.len())?;
-    put_records(out, plan);
+    put_records(&mut Page::new(out), plan);
     Ok(())
 }

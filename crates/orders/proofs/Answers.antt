@@ -1,14 +1,14 @@
 -- What is said to an order, case by case. Assumes nothing.
 use mathlib.Core.Bool.{Bool, true, false}
-use mathlib.Core.Path.{◌≡◌, sym, ap, subst, ◌∙◌}
+use mathlib.Core.Path.{◌≡◌, refl, sym, ap, subst, ◌∙◌}
 use mathlib.Core.List.{List, []}
 use Prim.Native.Nat.{ℕ, ◌*◌, ◌<◌, ◌≤◌}
 use native.Mathlib.Omega.{arith}
 use lib.ListN.{length}
 use borrow.Author.Tests.{eq-eqb, ne_eqb, lt-ltb, le-ltb}
 use Rattle.text.specs.Ascii.{ascii}
-use Rattle.text.specs.Page.{Page, page, Wrote}
-use Rattle.text.proofs.Pages.{spelt}
+use Rattle.text.specs.Page.{Page, page, puts, Wrote}
+use Rattle.text.proofs.Pages.{other_words}
 use Rattle.plans.specs.Refusal.{write_refusal}
 use Rattle.frames.specs.Writing.{frame_records, frame_writes}
 use Rattle.frames.proofs.Buffers.{frame_stands, frame_refused}
@@ -24,11 +24,11 @@ module _ (order : List ℕ) (k : ℕ) (buffer : List ℕ) where
   Says written q = (written ≡ answer.written) × Wrote (page buffer 0) answer.text q
 
   says : {q : Page} (w : Words) → w ≡ answer → Wrote (page buffer 0) w.text q → Says w.written q
-  says w e put = (ap (λ (x : Words). x.written) e, spelt put (ap (λ (x : Words). x.text) e))
+  says w e put = (ap (λ (x : Words). x.written) e, other_words put (ap (λ (x : Words). x.text) e))
 
-  pub none_left : {q : Page} → length order ≡ 0 → Wrote (page buffer 0) [] q → Says false q
-  unfolding answer_to
-  none_left z put = says (as_line []) (rw (eq-eqb _ _ z)) put
+  pub none_left : length order ≡ 0 → Says false (page buffer 0)
+  unfolding answer_to puts
+  none_left z = says (as_line []) (rw (eq-eqb _ _ z)) (record { left = refl })
 
   module _ (some : length order ≡ 0 → ⊥) {size : ℕ} (is : size ≡ order_size order) where
     pub cut : {q : Page} → length order < size → Wrote (page buffer 0) (line_about (ascii "cut short") k) q → Says false q

@@ -1,6 +1,6 @@
 // What is said to an order: records, or a last line.
 ghost use Rattle.std.specs.Prelude.{◌≡◌, length};
-ghost use Rattle.text.specs.Page.{page, Wrote};
+ghost use Rattle.text.specs.Page.{page, Wrote, Put};
 ghost use Rattle.text.specs.Ascii.{ascii};
 ghost use Rattle.plans.specs.Refused.{number_of};
 ghost use Rattle.orders.specs.Answer.{at_frame, line_about, refused_text, answer_to};
@@ -8,6 +8,7 @@ ghost use Rattle.orders.specs.Said.{written_by, length_by};
 
 use super::order;
 use plans::Refusal;
+use text::Page;
 
 // The line after which no more orders are answered, by its length; it is empty where no order was left.
 #[derive(Clone, Copy, PartialEq, Eq)]
@@ -15,27 +16,27 @@ pub struct LastLine {
     pub length: usize,
 }
 
-fn put_at(out: &mut [u8], place: usize, k: u64) -> usize
-    ensures { Wrote (page out.old place) (at_frame k) (page out.new result) }
+fn put_at(page: &mut Page, k: u64)
+    ensures { Put page.old (at_frame k) page.new }
 {
-    let a = text::put_text(&mut *out, place, b" at ");
-    let b = text::put_decimal(&mut *out, a, k);
-    text::put_byte(out, b, b'\n')
+    page.put_text(b" at ");
+    page.put_decimal(k);
+    page.put_byte(b'\n');
 }
 
-fn put_refused(out: &mut [u8], refusal: Refusal, k: u64) -> usize
-    ensures { Wrote (page out.old 0) (line_about (refused_text (number_of refusal)) k) (page out.new result) }
+fn put_refused(page: &mut Page, refusal: Refusal, k: u64)
+    ensures { Put page.old (line_about (refused_text (number_of refusal)) k) page.new }
 {
-    let a = text::put_text(&mut *out, 0, b"refused ");
-    let b = text::put_decimal(&mut *out, a, u64::from(refusal.number()));
-    put_at(out, b, k)
+    page.put_text(b"refused ");
+    page.put_decimal(u64::from(refusal.number()));
+    put_at(page, k);
 }
 
-fn put_cut_short(out: &mut [u8], k: u64) -> usize
-    ensures { Wrote (page out.old 0) (line_about (ascii "cut short") k) (page out.new result) }
+fn put_cut_short(page: &mut Page, k: u64)
+    ensures { Put page.old (line_about (ascii "cut short") k) page.new }
 {
-    let a = text::put_text(&mut *out, 0, b"cut short");
-    put_at(out, a, k)
+    page.put_text(b"cut short");
+    put_at(page, k);
 }
 
 // `order` is what could be read of the order for frame k; answers how many bytes the frame's records have.
@@ -47,15 +48,17 @@ pub fn answer(out: &mut [u8], order: &[u8], k: u64) -> Result<usize, LastLine>
         return Err(LastLine { length: 0 });
     }
     if order.len() < order::order_size(order) {
-        let length = put_cut_short(out, k);
-        return Err(LastLine { length });
+        let mut page = Page::new(out);
+        put_cut_short(&mut page, k);
+        return Err(LastLine { length: page.place });
     }
     let plan = order::plan_in(order);
     match frames::write_frame(&mut *out, &plan) {
         Ok(()) => Ok(plan.size()),
         Err(refusal) => {
-            let length = put_refused(out, refusal, k);
-            Err(LastLine { length })
+            let mut page = Page::new(out);
+            put_refused(&mut page, refusal, k);
+            Err(LastLine { length: page.place })
         }
     }
 }

@@ -48,7 +48,7 @@ fn answer_one<R: Read>(
     rt: &HostRuntime,
     from: &mut R,
     order: &mut [u8],
-    page: &mut [u8],
+    out: &mut [u8],
     k: u64,
 ) -> bool
     requires { length order.old ≡ 1032 }
@@ -57,14 +57,14 @@ fn answer_one<R: Read>(
         let _ = input::write_all(rt, Stream::Error, b"cannot read the orders\n");
         return false;
     };
-    let length = match orders::answer(&mut *page, &order[..n], k) {
+    let length = match orders::answer(&mut *out, &order[..n], k) {
         Ok(length) => length,
         Err(last) => {
-            let _ = input::write_all(rt, Stream::Error, &page[..last.length]);
+            let _ = input::write_all(rt, Stream::Error, &out[..last.length]);
             return false;
         }
     };
-    if input::write_all(rt, Stream::Output, &page[..length]).is_err() {
+    if input::write_all(rt, Stream::Output, &out[..length]).is_err() {
         let _ = input::write_all(rt, Stream::Error, b"cannot write the capture\n");
         return false;
     }
@@ -77,9 +77,9 @@ fn main(rt: HostRuntime) {
     // room for the longest order: 4 bytes, and for each input a length, a header and 255 bytes of body
     let mut order = [0u8; 1032];
     // room for the longest frame, of 4,096 records
-    let mut page = [0u8; 20480];
+    let mut out = [0u8; 20480];
     for k in 0..u64::MAX {
-        if !answer_one(&rt, &mut from, &mut order, &mut page, k) {
+        if !answer_one(&rt, &mut from, &mut order, &mut out, k) {
             break;
         }
     }

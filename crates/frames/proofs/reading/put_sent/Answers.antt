@@ -9,7 +9,7 @@ loop-k-preserved c =
     let l = c.loop-k in
     let a = c.args in
     let byte = ap (λ (x : ℕ). x ∷ []) c.sent_at.ensures in
-    went_on l.invariant (listed_next (sent_by a.frame.now a.input) l.k a.end c.loop-k-test.true) (spelt c.put_byte-next.ensures byte)
+    went_on l.invariant (listed_next (sent_by a.frame.now a.input) l.k a.end c.loop-k-test.true) (spelt c.put_byte.ensures byte)
 
 pub returns : goal.returns
 returns c = ended c.loop-k.invariant (listed_none _ _ _ c.loop-k-test.false)

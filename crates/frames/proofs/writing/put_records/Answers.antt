@@ -6,4 +6,4 @@ loop-k-init c = none_yet _ _
 
 pub loop-k-preserved : goal.loop-k-preserved
 loop-k-preserved c =
-    let l = c.loop-k in one_more _ l.k l.invariant c.record_in-five.ensures c.put_text-next.ensures
+    let l = c.loop-k in one_more _ l.k l.invariant c.record_in.ensures c.put_text.ensures

@@ -2,4 +2,4 @@ use Rattle.text.proofs.Pages.{◌then◌}
 use Rattle.orders.proofs.words.put_at.Goals as goal
 
 pub returns : goal.returns
-returns c = c.put_text-a.ensures then c.put_decimal-b.ensures then c.put_byte.ensures
+returns c = c.put_text.ensures then c.put_decimal.ensures then c.put_byte.ensures

@@ -2,4 +2,4 @@ use Rattle.text.proofs.Pages.{◌then◌}
 use Rattle.orders.proofs.words.put_cut_short.Goals as goal
 
 pub returns : goal.returns
-returns c = c.put_text-a.ensures then c.put_at.ensures
+returns c = c.put_text.ensures then c.put_at.ensures

@@ -5,4 +5,4 @@ use Rattle.orders.proofs.words.put_refused.Goals as goal
 
 pub returns : goal.returns
 returns c =
-    c.put_text-a.ensures then spelt c.put_decimal-b.ensures (ap decimal (c.from.ensures ∙ c.number.ensures)) then c.put_at.ensures
+    c.put_text.ensures then spelt c.put_decimal.ensures (ap decimal (c.from.ensures ∙ c.number.ensures)) then c.put_at.ensures
