@@ -18,10 +18,3 @@ loop-i-preserved c =
     let first = take c.min.result c.args.bits.now in
     let few : length first ≤ 8 = omega (arith, length-take c.min.result c.args.bits.now, c.min.ensures) in
     (added first c.loop-i.i c.loop-i-test.true few c.loop-i.invariant c.from.ensures).0
-
-pub returns : goal.returns
-returns c =
-    let bits = c.args.bits.now in
-    let most : c.min.result ≡ min 8 (length bits) = omega (arith, c.min.ensures) in
-    c.loop-i.invariant
-    ∙ ap lines (take_all c.loop-i.i (take c.min.result bits) c.loop-i-test.false ∙ ap (λ (k : ℕ). take k bits) most ∙ take_min 8 bits)

@@ -16,11 +16,6 @@ returns-in_err-check_early c =
     let e : judged_as c.from_residual.result ≡ Refused (number_of why) (place_of why) = search rules in
     e ∙ ap (Refused (number_of why)) (early_place _ _ _ why c.in_err-check_early.ensures) ∙ refused_early _ _ _ c.in_err-check_early.ensures (never_0 _)
 
-pub loop-at-init : goal.loop-at-init
-loop-at-init c =
-    let capture = c.args.capture.now in
-    let e : records capture ≡ records capture - 0 = omega arith in ap (first_bad capture 0) e
-
 pub returns-then-spare_set : goal.returns-then-spare_set
 returns-then-spare_set c =
     let more = c.loop-at-test.true in

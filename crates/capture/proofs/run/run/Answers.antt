@@ -24,6 +24,3 @@ loop-k-preserved g c =
           (ap (λ (x : Moved). x.machine) t),
       subst Held (sym (ap (λ (x : Moved). x.machine.state) t)) (held_after l.m.state _ _ l.invariant.1),
     )
-
-pub returns : goal.returns
-returns g c = let f = finished c.loop-k.invariant.0 c.loop-k-test.false in record { state = f.0; writes = f.1 }

@@ -13,9 +13,3 @@ returns-in-Ok c =
     let m = machine a.s a.rows in
     let ok = when_ok c.check.ensures c.in-Ok.is in
     answer_is m a.i (c.step.ensures.rules (held a.s (sym ok))) ∙ ap without_report (answered ok (done_cycle (step_of m a.i)) _ refl)
-
-pub returns-in-Err : goal.returns-in-Err
-returns-in-Err c =
-    let a = c.args in
-    let m = machine a.s a.rows in
-    ap without_report (refused (when_err c.check.ensures c.in-Err.is) (done_cycle (step_of m a.i)) (λ n. refused_cycle n m) (never_0 _))

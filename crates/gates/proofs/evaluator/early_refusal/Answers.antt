@@ -9,14 +9,8 @@ use Rattle.gates.proofs.evaluator.early_refusal.Goals as goal
 pub returns-then-inputs : goal.returns-then-inputs
 returns-then-inputs c = ap (λ (n : ℕ). fault n 0) (inputs_outside _ _ _ c.if-inputs.true)
 
-pub overflow_add-inputs : goal.overflow_add-inputs
-overflow_add-inputs c = search (rules, few_inputs c.args.inputs c.if-inputs.false)
-
 pub returns-then-gates-inputs : goal.returns-then-gates-inputs
 returns-then-gates-inputs c = ap (λ (n : ℕ). fault n 0) (gates_outside _ _ _ c.if-inputs.false c.if-gates-inputs.true)
-
-pub overflow_shr-input : goal.overflow_shr-input
-overflow_shr-input c = omega (arith, few_inputs c.args.inputs c.if-inputs.false)
 
 pub returns-then-input-inputs-ne0 : goal.returns-then-input-inputs-ne0
 returns-then-input-inputs-ne0 c = ap (λ (n : ℕ). fault n 0) (bit_above_lem _ _ _ c.if-inputs.false c.if-gates-inputs.false c.if-input-inputs-ne0.true)

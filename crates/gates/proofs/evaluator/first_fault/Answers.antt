@@ -2,9 +2,6 @@ use mathlib.Core.Path.{sym, ◌∙◌}
 use Rattle.gates.proofs.Loops.{fault_start, found_11, found_12, fault_again, none_found}
 use Rattle.gates.proofs.evaluator.first_fault.Goals as goal
 
-pub loop-i-init : goal.loop-i-init
-loop-i-init c = fault_start _ _
-
 pub returns-then-wrong : goal.returns-then-wrong
 returns-then-wrong c =
     found_11 _ _ _ c.loop-i.invariant c.loop-i-test.true (sym c.wrong.ensures ∙ c.if-wrong.true)

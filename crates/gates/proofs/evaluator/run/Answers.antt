@@ -2,9 +2,6 @@ use native.Mathlib.Nat.{add-zero, add_assoc}
 use Rattle.gates.proofs.Loops.{nets_start, nets_again, nets_end}
 use Rattle.gates.proofs.evaluator.run.Goals as goal
 
-pub loop-i-init : goal.loop-i-init
-loop-i-init c = (rw add-zero c.requires.1, nets_start _ _ _)
-
 pub loop-i-preserved : goal.loop-i-preserved
 loop-i-preserved c =
     let l = c.loop-i in (

@@ -11,9 +11,6 @@ returns-then-all-eq0 c =
 pub overflow_sub-result : goal.overflow_sub-result
 overflow_sub-result c = ones_pos _ c.askers-all.ensures.1 c.if-all-eq0.false
 
-pub overflow_cast-result : goal.overflow_cast-result
-overflow_cast-result c = omega (arith, ones-le 4 _ c.askers-all.ensures.1)
-
 pub returns : goal.returns
 returns c =
     let a = c.args in
