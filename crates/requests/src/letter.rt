@@ -3,21 +3,27 @@ ghost use Rattle.std.specs.Prelude.{◌≡◌};
 ghost use Rattle.text.specs.Page.{page, Wrote};
 ghost use Rattle.requests.specs.Letter.{too_long, later_line, line_of};
 
+use capture::Rules;
+use engine::Gates;
+
 // A buffer is asked for that is longer than there is room for.
 pub(crate) fn too_long(letter: u8, payload: &[u8]) -> bool
     ensures { result ≡ too_long letter payload.now }
 {
     let n = payload.len();
-    let replays = ((letter == b'R') | (letter == b'G')) & (29 <= n);
-    let saves = (letter == b'S') & (n == 29);
-    let writes = (letter == b'W') & call_frames::asks_frame(payload);
-    let reads = (letter == b'K') & (8 <= n);
-    let shows = (letter == b'H') & (5 <= n);
-    ((replays | saves) & (65536 < parts::word_at(payload, 25)))
-        | ((writes | reads | shows) & (65536 < parts::word_at(payload, 0)))
+    let order = call_frames::asks_frame(payload);
+    let first = parts::word_at(payload, 0);
+    let behind_state = parts::word_at(payload, 25);
+    let replays = matches!(letter, b'R' | b'G') && 29 <= n;
+    let saves = letter == b'S' && n == 29;
+    let writes = letter == b'W' && order;
+    let reads = letter == b'K' && 8 <= n;
+    let shows = letter == b'H' && 5 <= n;
+    (replays || saves) && 65536 < behind_state || (writes || reads || shows) && 65536 < first
 }
 
 // The calls that came after the base.
+#[tactic(auto, unfolding(crate::specs::Letter::later_line))]
 fn put_later_line(out: &mut [u8], letter: u8, payload: &[u8]) -> usize
     ensures { Wrote (page out.old 0) (later_line letter payload.now) (page out.new result) }
 {
@@ -30,14 +36,15 @@ fn put_later_line(out: &mut [u8], letter: u8, payload: &[u8]) -> usize
     }
 }
 
+#[tactic(auto, unfolding(crate::specs::Letter::line_of))]
 pub(crate) fn put_line(out: &mut [u8], letter: u8, payload: &[u8]) -> usize
     ensures { Wrote (page out.old 0) (line_of letter payload.now) (page out.new result) }
 {
     match letter {
-        b'C' => call_cycle::put_cycle(out, payload, false),
-        b'D' => call_cycle::put_cycle(out, payload, true),
-        b'R' => call_replay::put_replay(out, payload, false),
-        b'G' => call_replay::put_replay(out, payload, true),
+        b'C' => call_cycle::put_cycle(out, payload),
+        b'D' => call_cycle::put_gate_cycle(out, payload),
+        b'R' => call_replay::put_replay(&Rules, out, payload),
+        b'G' => call_replay::put_replay(&Gates, out, payload),
         b'S' => call_replay::put_save(out, payload),
         b'T' => call_replay::put_take_up(out, payload),
         b'E' => call_gates::put_evaluate(out, payload),

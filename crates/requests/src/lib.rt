@@ -5,4 +5,4 @@
 mod letter;
 mod reply;
 
-pub use reply::{Reply, payload_length, put_reply};
+pub use reply::{payload_length, put_reply};
