@@ -8,7 +8,7 @@ use lib.Dec.{ltb}
 use lib.ListN.{length, get_or, take, drop, length-drop}
 use lib.Seq.{get_or-drop, drop-cons}
 use borrow.Author.Tests.{ltb-true, ltb-false}
-use Rattle.text.specs.declared.difference.Difference.{Difference}
+use Rattle.std.proofs.Common.{Option}
 use Rattle.routing.proofs.Fours.{not_both}
 use Rattle.numerals.specs.Numeral.{numeral, run_begins, leading, run_ends}
 use Rattle.numerals.specs.Piece.{holding, begins, ends, around, piece_at}
@@ -168,7 +168,7 @@ unfolding around
 piece_holds station head k text e is =
     let l : length text ≡ length (holding station head k) = ap length is in
     let r = holds_by text k (numeral (get_or text k 0)) refl (omega (arith, l, inside station head k e)) in
-    (ap (λ (d : Difference). piece_at d station head) e ∙ ap (λ (t : List ℕ). around t k) (sym is), r.0, r.1, r.2)
+    (ap (λ (d : Option ℕ). piece_at d station head) e ∙ ap (λ (t : List ℕ). around t k) (sym is), r.0, r.1, r.2)
 
 pub only_numerals : OnlyNumerals
 only_numerals text k j more = all_by text k (numeral (get_or text k 0)) refl more j

@@ -7,8 +7,7 @@ use native.Mathlib.Omega.{arith}
 use lib.Dec.{ltb}
 use lib.ListN.{length, drop, length-take, length-drop, length-append}
 use borrow.Author.Tests.{ltb-true, ltb-false}
-use Rattle.text.specs.declared.difference.Difference.{Difference}
-use Rattle.text.specs.declared.difference.Difference.TheVariants.{Same, At}
+use Rattle.std.proofs.Common.{Option, Some, None}
 use Rattle.text.specs.Differ.{first_difference}
 use Rattle.text.specs.Ascii.{ascii}
 use Rattle.text.specs.Digits.{decimal, hexes}
@@ -35,9 +34,9 @@ module _ (station head : List ℕ) (n : ℕ) (s : length station ≤ n) (d : len
   holding_by k false e =
       let l : length head ≡ length (holding station head k) = ap length (in_head station head k (ltb-false _ _ e)) in omega (arith, l, d)
 
-  found_by : (x : Difference) → first_difference station head ≡ x → length (found x station head) ≤ 2 * n + 7
-  found_by Same e = omega arith
-  found_by (At k) e =
+  found_by : (x : Option ℕ) → first_difference station head ≡ x → length (found x station head) ≤ 2 * n + 7
+  found_by None e = omega arith
+  found_by (Some k) e =
       let text = holding station head k in
       let long : length text ≤ n = holding_by k (ltb k (length station)) refl in
       let digits : length (decimal k) ≤ 5 = few_digits 4 k (omega (arith, inside station head k e, long, few)) in

@@ -14,9 +14,7 @@ use Rattle.runs.specs.Run.{head}
 use Rattle.records.specs.Record.{byte_at}
 use Rattle.records.specs.Answers.{answers_of}
 use Rattle.places.specs.Capture.{records, five_at, record_at, inputs_in}
-use Rattle.capture.specs.declared.refusal.Judged.{Judged}
-use Rattle.capture.specs.declared.refusal.Judged.TheVariants.{Done}
-use Rattle.capture.specs.Refusal.{early_refusal, first_bad, judged}
+use Rattle.capture.specs.Refusal.{Judged, Done, early_refusal, first_bad, judged}
 use Rattle.capture.specs.Replay.{replayed_as, replay_of}
 use Rattle.capture.proofs.Fates.{refused_early, refused_3, done}
 use Rattle.promises.specs.Answered.{replay_run}

@@ -2,6 +2,7 @@
 use mathlib.Core.Bool.{Bool, true, false}
 use mathlib.Core.Path.{◌≡◌, refl, sym, ap, ◌∙◌}
 use mathlib.Core.List.{List, [], ◌++◌, append_assoc, append-nil}
+use Rattle.std.proofs.Common.{Option, None}
 use Prim.Native.Nat.{ℕ, zero, suc, ◌<◌}
 use native.Mathlib.Omega.{arith}
 use lib.Dec.{eqb}
@@ -11,6 +12,7 @@ use Rattle.text.specs.Digits.{decimal_in}
 use Rattle.fabric.specs.Run.{reset_machine}
 use Rattle.capture.specs.Replay.{replay_of}
 use Rattle.listing.specs.Refusal.{refusal_line}
+use Rattle.comparison.specs.Both.{index_given}
 use Rattle.verdict.specs.Printed.{printed_by}
 use Rattle.verdict.proofs.Verdicts.{done_text, refused_text_lem}
 use Rattle.numerals.specs.Line.{same_line}
@@ -23,7 +25,7 @@ use Rattle.meaning.specs.ReadBacks.{four_same, answers_to, CameThrough, FourSame
 use Rattle.readings.proofs.Saids.{cut_short, not_cut_short}
 
 -- a refusal line is none of the lines that a read-back begins with
-no_refusal : (number index : ℕ) → refusal_line number index ≡ four_same → ⊥
+no_refusal : (number : ℕ) (index : Option ℕ) → refusal_line number index ≡ four_same → ⊥
 unfolding decimal_in
 no_refusal number index e =
     let first : ◌≡◌ {A = ℕ} 114 48 = ap (λ (l : List ℕ). get_or l 0 0) e in omega (arith, first)
@@ -76,22 +78,26 @@ module _ (input : List ℕ) where
   abbrev number : ℕ
   number = (replay_of reset_machine capture (length capture)).number
 
+  -- the index that is printed with it
+  abbrev given : Option ℕ
+  given = index_given number (replay_of reset_machine capture (length capture)).index
+
   -- what is printed of the capture, by the number that its replay hands back
   lines_printed : number ≡ 0 → four_lines input (answers_to capture) ≡ printed_by (four_lines input) capture
   unfolding printed_by
   lines_printed z = done_text (four_lines input) number (replay_of reset_machine capture (length capture)).index (answers_to capture) z
 
-  refusal_printed : (number ≡ 0 → ⊥) → refusal_line number (replay_of reset_machine capture (length capture)).index ≡ printed_by (four_lines input) capture
+  refusal_printed : (number ≡ 0 → ⊥) → refusal_line number given ≡ printed_by (four_lines input) capture
   unfolding printed_by
   refusal_printed n = refused_text_lem (four_lines input) number (replay_of reset_machine capture (length capture)).index (answers_to capture) n
 
   through : (t z : Bool) → ends_inside input ≡ t → eqb number 0 ≡ z → read_back input ≡ four_same → CameThrough input
-  through true z et ez e = absurd (no_refusal 25 0 (cut_short input capture et ∙ e))
+  through true z et ez e = absurd (no_refusal 25 None (cut_short input capture et ∙ e))
   through false true et ez e =
       let done : number ≡ 0 = eqb-true _ _ ez in
       record { texts = et; done = done; shown = all_same input (answers_to capture) (lines_printed done ∙ not_cut_short input capture et ∙ e) }
   through false false et ez e =
-      absurd (no_refusal number (replay_of reset_machine capture (length capture)).index (refusal_printed (eqb-false _ _ ez) ∙ not_cut_short input capture et ∙ e))
+      absurd (no_refusal number given (refusal_printed (eqb-false _ _ ez) ∙ not_cut_short input capture et ∙ e))
 
 pub four_same_lem : FourSame
 four_same_lem input = (

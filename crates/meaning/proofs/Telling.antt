@@ -5,8 +5,7 @@ use Prim.Native.Nat.{ℕ, ◌+◌}
 use native.Mathlib.Omega.{arith}
 use lib.ListN.{length, get_or, take, drop}
 use lib.Seq.{get_or-append-add, drop-append_seam}
-use Rattle.text.specs.declared.difference.Difference.{Difference}
-use Rattle.text.specs.declared.difference.Difference.TheVariants.{Same, At}
+use Rattle.std.proofs.Common.{Option, Some, None}
 use Rattle.text.specs.Differ.{difference_from, first_difference}
 use Rattle.text.specs.Ascii.{ascii}
 use Rattle.text.specs.Digits.{decimal, hexes}
@@ -30,7 +29,7 @@ place_found station head k = (
       ),
   λ e h.
       let n : 0 + k ≡ k = omega arith in
-      places.only 0 k station head e h ∙ ap At n,
+      places.only 0 k station head e h ∙ ap Some n,
 )
 
 module _ (h : ℕ) where
@@ -49,18 +48,18 @@ module _ (h : ℕ) where
   tells_of said rest = ap tells (from_number said rest) ∙ get_or-append-add (decimal h) (said ++ ascii "\n" ++ rest) 1 0
 
   module _ (station head rest other : List ℕ) where
-    by : (d : Difference) → first_difference station head ≡ d → line_with (found d station head) rest ≡ same_line h ++ other → (station ≡ head) × (rest ≡ other)
-    by Same is e = ((nothing_differs station head).0 is, sym (drop-append_seam (same_line h) rest) ∙ ap (λ (l : List ℕ). drop (length (same_line h)) l) e ∙ drop-append_seam (same_line h) other)
-    by (At k) is e =
+    by : (d : Option ℕ) → first_difference station head ≡ d → line_with (found d station head) rest ≡ same_line h ++ other → (station ≡ head) × (rest ≡ other)
+    by None is e = ((nothing_differs station head).0 is, sym (drop-append_seam (same_line h) rest) ∙ ap (λ (l : List ℕ). drop (length (same_line h)) l) e ∙ drop-append_seam (same_line h) other)
+    by (Some k) is e =
         let d = first_digit k in
-        let first = ap (λ (l : List ℕ). get_or (l ++ ascii " " ++ hexes (piece_at (At k) station head) ++ ascii "\n" ++ rest) 0 0) d.spelt in
-        let digit : tells (line_with (found (At k) station head) rest) ≡ d.digit = tells_of (found (At k) station head) rest ∙ first in
+        let first = ap (λ (l : List ℕ). get_or (l ++ ascii " " ++ hexes (piece_at (Some k) station head) ++ ascii "\n" ++ rest) 0 0) d.spelt in
+        let digit : tells (line_with (found (Some k) station head) rest) ≡ d.digit = tells_of (found (Some k) station head) rest ∙ first in
         let letter : tells (same_line h ++ other) ≡ 115 = tells_of (ascii " same") other in
         absurd (omega (arith, sym digit ∙ ap tells e ∙ letter, d.small))
 
 pub says_same : SaysSame
 unfolding head_line
-says_same h station head rest other = (by h station head rest other (first_difference station head) refl, λ e. ap (λ (d : Difference). decimal h ++ found d station head ++ ascii "\n") ((nothing_differs station head).1 e))
+says_same h station head rest other = (by h station head rest other (first_difference station head) refl, λ e. ap (λ (d : Option ℕ). decimal h ++ found d station head ++ ascii "\n") ((nothing_differs station head).1 e))
 
 pub numerals_seen : NumeralsSeen
 numerals_seen h station head k is not e =

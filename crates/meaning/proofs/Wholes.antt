@@ -2,6 +2,7 @@
 use mathlib.Core.Bool.{Bool, true, false, cond}
 use mathlib.Core.Path.{◌≡◌, refl, sym, ap, ◌∙◌}
 use mathlib.Core.List.{List}
+use Rattle.std.proofs.Common.{None}
 use Prim.Native.Nat.{ℕ, ◌-◌, ◌<◌, ◌≤◌}
 use native.Mathlib.Omega.{arith}
 use lib.Dec.{ltb}
@@ -23,7 +24,7 @@ use Rattle.readings.proofs.Saids.{not_cut_short}
 -- captures of which the same is printed are the same to the read-back
 with_same : (input a b : List ℕ) → printed_by (four_lines input) a ≡ printed_by (four_lines input) b → read_with input a ≡ read_with input b
 unfolding read_with
-with_same input a b e = ap (cond (ends_inside input) (refusal_line 25 0)) e
+with_same input a b e = ap (cond (ends_inside input) (refusal_line 25 None)) e
 
 module _ (whole : List ℕ) where
   -- an input of which all is there

@@ -4,8 +4,7 @@ use Rattle.states.specs.State.{reset_state}
 use Rattle.fabric.specs.Run.{reset_machine}
 use Rattle.runs.specs.Run.{Run, head}
 use Rattle.places.specs.Capture.{records}
-use Rattle.capture.specs.declared.refusal.Judged.TheVariants.{Done}
-use Rattle.capture.specs.Refusal.{judged}
+use Rattle.capture.specs.Refusal.{Done, judged}
 use Rattle.promises.specs.Answered.{replay_run}
 use Rattle.heads.specs.Shown.{without_zeros, head_text}
 use Rattle.due.specs.Texts.{text_due, capture_in, ends_inside}

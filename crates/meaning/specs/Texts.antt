@@ -1,6 +1,5 @@
 -- What the place, the piece and the line say of two texts.
-use Rattle.std.specs.Prelude.{true, false, ◌||◌, ◌≡◌, List, [], ◌∷◌, ◌++◌, ℕ, suc, ◌≤◌, ◌<◌, length, get_or, take, drop}
-use Rattle.text.specs.declared.difference.Difference.TheVariants.{Same, At}
+use Rattle.std.specs.Prelude.{true, false, ◌||◌, ◌≡◌, List, [], ◌∷◌, ◌++◌, Some, None, ℕ, suc, ◌≤◌, ◌<◌, length, get_or, take, drop}
 use Rattle.text.specs.Differ.{first_difference}
 use Rattle.numerals.specs.Numeral.{numeral}
 use Rattle.numerals.specs.Piece.{holding, begins, ends, part, around, piece_of}
@@ -12,19 +11,19 @@ byte_there text k = take 1 (drop k text)
 
 -- Nothing differs exactly if the texts are equal.
 abbrev pub NothingDiffers : Type 0
-NothingDiffers = (station head : List ℕ) → (first_difference station head ≡ Same → station ≡ head) × (station ≡ head → first_difference station head ≡ Same)
+NothingDiffers = (station head : List ℕ) → (first_difference station head ≡ None → station ≡ head) × (station ≡ head → first_difference station head ≡ None)
 
 -- The texts agree before the place and differ at it, and no other place is such.
 abbrev pub PlaceFound : Type 0
 PlaceFound =
     (station head : List ℕ) (k : ℕ)
-    → (first_difference station head ≡ At k → (take k station ≡ take k head) × (byte_there station k ≡ byte_there head k → ⊥))
-    × (take k station ≡ take k head → (byte_there station k ≡ byte_there head k → ⊥) → first_difference station head ≡ At k)
+    → (first_difference station head ≡ Some k → (take k station ≡ take k head) × (byte_there station k ≡ byte_there head k → ⊥))
+    × (take k station ≡ take k head → (byte_there station k ≡ byte_there head k → ⊥) → first_difference station head ≡ Some k)
 
 -- The piece is a part of the text that holds the place, and the place lies in it.
 abbrev pub PieceHolds : Type 0
 PieceHolds =
-    (station head : List ℕ) (k : ℕ) (text : List ℕ) → first_difference station head ≡ At k → text ≡ holding station head k
+    (station head : List ℕ) (k : ℕ) (text : List ℕ) → first_difference station head ≡ Some k → text ≡ holding station head k
     → (piece_of station head ≡ part text (begins text k) (ends text k)) × (begins text k ≤ k) × (k < ends text k) × (ends text k ≤ length text)
 
 -- Every byte of a longer piece is a numeral byte.

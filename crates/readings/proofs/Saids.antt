@@ -1,72 +1,70 @@
 -- What is said of an input, call by call. Assumes nothing.
-use mathlib.Core.Bool.{Bool, true, false, ◌&&◌, true≢false}
-use mathlib.Core.Path.{◌≡◌, refl, sym, ap, ◌∙◌}
-use mathlib.Core.List.{List}
-use Prim.Native.Nat.{ℕ, ◌-◌, ◌≤◌}
-use native.Mathlib.Omega.{arith}
-use lib.Dec.{eqb}
-use lib.ListN.{length, take}
-use borrow.Author.Tests.{eqb-true, eqb-false}
-use Rattle.text.specs.declared.difference.Difference.{Difference}
-use Rattle.text.specs.declared.difference.Difference.TheVariants.{Same, At}
+use Rattle.std.proofs.Common.{◌≡◌, ℕ, zero, suc, ◌+◌, ◌≤◌, true, false, List, [], ◌++◌, length, take, Option, Some, None, Ok, Err, refl, sym, ap, ◌∙◌, arith}
+use native.Mathlib.Numerals.{add-one}
+use lib.ListN.{length-replicate}
 use Rattle.text.specs.Page.{Page, page, Wrote}
-use Rattle.text.proofs.Pages.{spelt}
+use Rattle.text.proofs.Pages.{◌then◌, spelt}
 use Rattle.text.proofs.Room.{all_there}
-use Rattle.routing.proofs.Equal.{two}
-use Rattle.routing.proofs.Fours.{and_left, and_right}
+use Rattle.states.specs.declared.refusal.Refusal.{Refusal}
+use Rattle.states.specs.Refusal.{number_in}
+use Rattle.states.proofs.Refusals.{never_0}
 use Rattle.places.specs.Capture.{records}
 use Rattle.listing.specs.Listing.{listing}
 use Rattle.listing.specs.Refusal.{refusal_line}
 use Rattle.comparison.specs.declared.both.Both.{Both}
-use Rattle.comparison.specs.Agreement.{is_same}
-use Rattle.comparison.specs.Both.{kept}
+use Rattle.comparison.specs.Both.{zeros, told, place_in}
 use Rattle.verdict.specs.Verdict.{outcome_text, unless_differ, verdict_of, verdict_text}
 use Rattle.verdict.specs.Printed.{printed_by}
 use Rattle.verdict.proofs.Verdicts.{done_text, refused_text_lem}
 use Rattle.heads.specs.Shown.{head_text}
 use Rattle.heads.proofs.Shows.{at_most}
-use Rattle.due.specs.Texts.{capture_in, ends_inside}
-use Rattle.readings.specs.Lines.{four_lines}
-use Rattle.readings.specs.ReadBack.{capture_kept, read_with}
-
-pub captured : (bytes rest : List ℕ) (total size n : ℕ) → rest ≡ capture_in bytes → size ≡ length bytes - length rest → n ≡ total - size → kept rest n ≡ capture_kept bytes total
-captured bytes rest total size n er es en = two kept er (en ∙ ap (λ (s : ℕ). total - s) (es ∙ ap (λ (l : List ℕ). length bytes - length l) er))
+use Rattle.due.specs.Texts.{ends_inside}
+use Rattle.readings.specs.Lines.{line_of, four_lines}
+use Rattle.readings.specs.ReadBack.{read_with}
 
 -- a head's bytes have room in the space that is lent for them
-pub collected : (answers : List ℕ) (h : ℕ) {space after : List ℕ} {n : ℕ} → records answers ≤ 12289 → 12289 ≡ length space → Wrote (page space 0) (head_text answers h) (page after n)
+pub collected : (answers : List ℕ) (h : ℕ) {after : List ℕ} {n : ℕ} → records answers ≤ 12289 → Wrote (page (zeros 12289) 0) (head_text answers h) (page after n)
     → (n ≡ length (head_text answers h)) × (take n after ≡ head_text answers h)
-collected answers h few room w = all_there w (omega (arith, few, room, at_most answers h))
+collected answers h few w =
+    let room : length (zeros 12289) ≡ 12289 = length-replicate {A = ℕ} 12289 0 in all_there w (omega (arith, few, room, at_most answers h))
+
+-- the lines of the first heads
+unfoldable pub first_lines : List ℕ → List ℕ → ℕ → List ℕ
+first_lines input answers zero = []
+first_lines input answers (suc h) = first_lines input answers h ++ line_of input answers h
+
+pub one_more : (input answers : List ℕ) (h : ℕ) {p q r : Page} → Wrote p (first_lines input answers h) q → Wrote q (line_of input answers h) r → Wrote p (first_lines input answers (h + 1)) r
+unfolding first_lines
+one_more input answers h first next = spelt (first then next) (ap (first_lines input answers) (sym (add-one h)))
+
+pub all_four : (input answers : List ℕ) → first_lines input answers 4 ≡ four_lines input answers
+unfolding first_lines four_lines
+all_four input answers = refl
 
 -- done and the same: the lines; otherwise what the program replay would say
 module _ (said : List ℕ → List ℕ) (b : Both) (answers : List ℕ) where
-  module _ {t : Bool} (is : t ≡ is_same b.difference) where
-    by_same : (d : Difference) → b.difference ≡ d → is_same b.difference ≡ true → b.number ≡ 0 → said answers ≡ verdict_of said b answers
-    by_same Same e h z = done_text said b.number b.index answers z ∙ ap (λ (d : Difference). unless_differ d (outcome_text said b.number b.index answers)) (sym e)
-    by_same (At k) e h z = absurd (true≢false (sym h ∙ ap is_same e))
+  pub lines_said : b.outcome ≡ Ok tt → b.difference ≡ None → said answers ≡ verdict_of said (told b) answers
+  lines_said done same =
+      done_text said (number_in b.outcome) (place_in b.outcome) answers (ap number_in done)
+      ∙ ap (λ (d : Option ℕ). unless_differ d (outcome_text said (number_in b.outcome) (place_in b.outcome) answers)) (sym same)
 
-    pub lines_said : (t && eqb b.number 0) ≡ true → {before after : Page} → Wrote before (said answers) after → (true ≡ is_same b.difference) × Wrote before (verdict_of said b answers) after
-    lines_said e w =
-        let same : is_same b.difference ≡ true = sym is ∙ and_left t (eqb b.number 0) e in
-        (sym same, spelt w (by_same b.difference refl same (eqb-true _ _ (and_right t (eqb b.number 0) e))))
+  pub differ_said : {k : ℕ} → b.difference ≡ Some k → verdict_text (told b) answers ≡ verdict_of said (told b) answers
+  differ_said e =
+      ap (λ (d : Option ℕ). unless_differ d (outcome_text listing (number_in b.outcome) (place_in b.outcome) answers)) e
+      ∙ sym (ap (λ (d : Option ℕ). unless_differ d (outcome_text said (number_in b.outcome) (place_in b.outcome) answers)) e)
 
-    other_by : (d : Difference) → b.difference ≡ d → (t && eqb b.number 0) ≡ false → verdict_text b answers ≡ verdict_of said b answers
-    other_by (At k) e h = ap (λ (x : Difference). unless_differ x (outcome_text listing b.number b.index answers)) e ∙ sym (ap (λ (x : Difference). unless_differ x (outcome_text said b.number b.index answers)) e)
-    other_by Same e h =
-        let yes : t ≡ true = is ∙ ap is_same e in
-        let no : eqb b.number 0 ≡ false = sym (ap (λ (x : Bool). x && eqb b.number 0) yes) ∙ h in
-        let refused = eqb-false b.number 0 no in
-        ap (λ (x : Difference). unless_differ x (outcome_text listing b.number b.index answers)) e
-        ∙ sym (refused_text_lem listing b.number b.index answers refused) ∙ refused_text_lem said b.number b.index answers refused
-        ∙ sym (ap (λ (x : Difference). unless_differ x (outcome_text said b.number b.index answers)) e)
-
-    pub other_said : (t && eqb b.number 0) ≡ false → {agreed : Bool} {before after : Page}
-        → (agreed ≡ is_same b.difference) × Wrote before (verdict_text b answers) after → (agreed ≡ is_same b.difference) × Wrote before (verdict_of said b answers) after
-    other_said e w = (w.0, spelt w.1 (other_by b.difference refl e))
+  pub refused_said : {why : Refusal} → b.outcome ≡ Err why → verdict_text (told b) answers ≡ verdict_of said (told b) answers
+  refused_said {why = why} e =
+      let no : number_in b.outcome ≡ 0 → ⊥ = λ z. never_0 why (sym (ap number_in e) ∙ z) in
+      ap (unless_differ b.difference) (sym (refused_text_lem listing _ _ answers no) ∙ refused_text_lem said _ _ answers no)
 
 module _ (input capture : List ℕ) where
-  pub cut_short : ends_inside input ≡ true → refusal_line 25 0 ≡ read_with input capture
+  pub cut_short : ends_inside input ≡ true → refusal_line 25 None ≡ read_with input capture
   unfolding read_with
   cut_short e = rw e
+
+  pub cut_short_by : {n : ℕ} → n ≡ 25 → ends_inside input ≡ true → refusal_line n None ≡ read_with input capture
+  cut_short_by en e = ap (λ (k : ℕ). refusal_line k None) en ∙ cut_short e
 
   pub not_cut_short : ends_inside input ≡ false → printed_by (four_lines input) capture ≡ read_with input capture
   unfolding read_with

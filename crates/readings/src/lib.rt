@@ -4,5 +4,6 @@
 
 mod answer;
 mod lines;
+mod refusal;
 
 pub use answer::read_back;

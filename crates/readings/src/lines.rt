@@ -1,23 +1,17 @@
 // A line for each head.
-ghost use Rattle.std.specs.Prelude.{◌≡◌, ◌≤◌, length};
+ghost use Rattle.std.specs.Prelude.{◌≤◌};
 ghost use Rattle.text.specs.Page.{page, Wrote};
 ghost use Rattle.places.specs.Capture.{records};
 ghost use Rattle.readings.specs.Lines.{line_of, four_lines};
 
 use routing::Output;
 
-// Room for a byte in each cycle of the longest capture that is kept.
-fn blank() -> [u8; 12289]
-    ensures { 12289 ≡ length result }
-{
-    [0; 12289]
-}
-
 fn put_head(out: &mut [u8], place: usize, head: Output, input: &[u8], answers: &[u8]) -> usize
     requires { records answers.now ≤ 12289 }
     ensures { Wrote (page out.old place) (line_of input.now answers.now head.0) (page out.new result) }
 {
-    let mut space = blank();
+    // room for a byte in each cycle of the longest capture that is kept
+    let mut space = [0; 12289];
     let n = heads::put_shown(&mut space, answers, head);
     numerals::put_line(out, place, head.0, due::text_due(input, head), &space[..n])
 }
@@ -26,8 +20,9 @@ pub(crate) fn put_lines(out: &mut [u8], input: &[u8], answers: &[u8]) -> usize
     requires { records answers.now ≤ 12289 }
     ensures { Wrote (page out.old 0) (four_lines input.now answers.now) (page out.new result) }
 {
-    let a = put_head(&mut *out, 0, Output(0), input, answers);
-    let b = put_head(&mut *out, a, Output(1), input, answers);
-    let c = put_head(&mut *out, b, Output(2), input, answers);
-    put_head(out, c, Output(3), input, answers)
+    let mut next = 0;
+    for h in 0..4 {
+        next = put_head(&mut *out, next, Output(h), input, answers);
+    }
+    next
 }

@@ -1,5 +1,5 @@
 -- What is said of two replays. Assumes nothing.
-use Rattle.std.proofs.Common.{◌≡◌, ℕ, Bool, true, false, List, Option, Some, None, is_none, Result, Ok, Err, sym, ap, ◌∙◌}
+use Rattle.std.proofs.Common.{◌≡◌, ℕ, List, Option, Result, Ok, Err, sym, ap, ◌∙◌}
 use borrow.Author.Tests.{eq-eqb, ne_eqb}
 use Rattle.text.specs.declared.page.Page.{Page}
 use Rattle.text.specs.Page.{Put}
@@ -11,7 +11,7 @@ use Rattle.states.proofs.Refusals.{never_0}
 use Rattle.listing.specs.Refusal.{refusal_line}
 use Rattle.comparison.specs.Both.{Both, place_in, index_given}
 use Rattle.comparison.proofs.Inputs.{given_again}
-use Rattle.verdict.specs.Verdict.{outcome_text, differ_text, unless_differ, verdict_of}
+use Rattle.verdict.specs.Verdict.{outcome_text, unless_differ, verdict_of}
 
 module _ (said : List ℕ → List ℕ) where
   module _ (number index : ℕ) (answers : List ℕ) where
@@ -31,21 +31,10 @@ module _ (said : List ℕ → List ℕ) where
       ∙ refused_text_lem (number_of why) (place_in (Err why)) answers (never_0 why)
       ∙ ap (λ (x : Result Unit Refusal). outcome_text said (number_in x) (place_in x) answers) (sym e)
 
-  module _ (b : Both) (answers : List ℕ) where
-    abbrev text : Option ℕ → List ℕ
-    text d = unless_differ d (outcome_text said b.number b.index answers)
-
-    module _ {before after : Page} where
-      pub said_same : b.difference ≡ None → Put before (outcome_text said b.number b.index answers) after → (true ≡ is_none b.difference) × Put before (verdict_of said b answers) after
-      said_same told w = (ap is_none (sym told), spelt w (ap text (sym told)))
-
-      pub said_differ : {k : ℕ} → b.difference ≡ Some k → Put before (differ_text k) after → (false ≡ is_none b.difference) × Put before (verdict_of said b answers) after
-      said_differ told w = (ap is_none (sym told), spelt w (ap text (sym told)))
+  pub said_by : (b : Both) (answers : List ℕ) {d : Option ℕ} {before after : Page} → b.difference ≡ d → Put before (unless_differ d (outcome_text said b.number b.index answers)) after
+      → Put before (verdict_of said b answers) after
+  said_by b answers told w = spelt w (ap (λ (x : Option ℕ). unless_differ x (outcome_text said b.number b.index answers)) (sym told))
 
   -- the same is said of equal replays
-  pub said_of : {b b' : Both} {x x' : List ℕ} {agreed : Bool} {before after : Page} → b ≡ b' → x ≡ x'
-      → (agreed ≡ is_none b.difference) × Put before (verdict_of said b x) after
-      → (agreed ≡ is_none b'.difference) × Put before (verdict_of said b' x') after
-  said_of {b = b} {b' = b'} {x = x} {x' = x'} eb ex w =
-      let t : verdict_of said b x ≡ verdict_of said b' x' = cc in
-      (w.0 ∙ ap (λ (y : Both). is_none y.difference) eb, spelt w.1 t)
+  pub said_of : {b b' : Both} {x x' : List ℕ} {before after : Page} → b ≡ b' → x ≡ x' → Put before (verdict_of said b x) after → Put before (verdict_of said b' x') after
+  said_of eb ex w = spelt w (two (verdict_of said) eb ex)

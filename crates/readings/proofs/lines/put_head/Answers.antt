@@ -14,5 +14,5 @@ slice_bounds-put_line-end c = counted c.put_shown-n.ensures
 pub returns : goal.returns
 returns c =
     let a = c.args in
-    let shown = collected a.answers.now a.head.0 c.requires c.blank-space.ensures c.put_shown-n.ensures in
+    let shown = collected a.answers.now a.head.0 c.requires c.put_shown-n.ensures in
     spelt c.put_line.ensures (two (head_line a.head.0) c.text_due.ensures shown.1)
