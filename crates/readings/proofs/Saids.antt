@@ -2,9 +2,10 @@
 use Rattle.std.proofs.Common.{◌≡◌, ℕ, zero, suc, ◌+◌, ◌≤◌, true, false, List, [], ◌++◌, length, take, Option, Some, None, Ok, Err, refl, sym, ap, ◌∙◌, arith}
 use native.Mathlib.Numerals.{add-one}
 use lib.ListN.{length-replicate}
-use Rattle.text.specs.Page.{Page, page, Wrote}
+use Rattle.text.specs.declared.page.Page.{Page}
+use Rattle.text.specs.Page.{Blank, Put, seen, page}
 use Rattle.text.proofs.Pages.{◌then◌, spelt}
-use Rattle.text.proofs.Room.{all_there}
+use Rattle.text.proofs.Room.{onto, all_there}
 use Rattle.states.specs.declared.refusal.Refusal.{Refusal}
 use Rattle.states.specs.Refusal.{number_in}
 use Rattle.states.proofs.Refusals.{never_0}
@@ -23,17 +24,17 @@ use Rattle.readings.specs.Lines.{line_of, four_lines}
 use Rattle.readings.specs.ReadBack.{read_with}
 
 -- a head's bytes have room in the space that is lent for them
-pub collected : (answers : List ℕ) (h : ℕ) {after : List ℕ} {n : ℕ} → records answers ≤ 12289 → Wrote (page (zeros 12289) 0) (head_text answers h) (page after n)
-    → (n ≡ length (head_text answers h)) × (take n after ≡ head_text answers h)
-collected answers h few w =
-    let room : length (zeros 12289) ≡ 12289 = length-replicate {A = ℕ} 12289 0 in all_there w (omega (arith, few, room, at_most answers h))
+pub collected : (answers : List ℕ) (h : ℕ) {p q : Page} → records answers ≤ 12289 → Blank (zeros 12289) p → Put p (head_text answers h) q
+    → take q.place q.bytes.now ≡ head_text answers h
+collected answers h few blank w =
+    let room : length (zeros 12289) ≡ 12289 = length-replicate {A = ℕ} 12289 0 in (all_there (onto blank w) (omega (arith, few, room, at_most answers h))).1
 
 -- the lines of the first heads
 unfoldable pub first_lines : List ℕ → List ℕ → ℕ → List ℕ
 first_lines input answers zero = []
 first_lines input answers (suc h) = first_lines input answers h ++ line_of input answers h
 
-pub one_more : (input answers : List ℕ) (h : ℕ) {p q r : Page} → Wrote p (first_lines input answers h) q → Wrote q (line_of input answers h) r → Wrote p (first_lines input answers (h + 1)) r
+pub one_more : (input answers : List ℕ) (h : ℕ) {p q r : Page} → Put p (first_lines input answers h) q → Put q (line_of input answers h) r → Put p (first_lines input answers (h + 1)) r
 unfolding first_lines
 one_more input answers h first next = spelt (first then next) (ap (first_lines input answers) (sym (add-one h)))
 

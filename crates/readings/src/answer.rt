@@ -1,32 +1,35 @@
 // What is printed of an input, of which the start is kept and all is counted.
 ghost use Rattle.std.specs.Prelude.{true, ◌≡◌, ◌≤◌, length, take, is_none};
-ghost use Rattle.text.specs.Page.{page, Wrote};
+ghost use Rattle.text.specs.Page.{Put};
 ghost use Rattle.fabric.specs.Run.{reset_machine};
 ghost use Rattle.capture.specs.Replay.{replay_writes};
 ghost use Rattle.comparison.specs.Both.{both_of};
-ghost use Rattle.verdict.specs.Verdict.{verdict_of, agreed_in, length_in};
+ghost use Rattle.verdict.specs.Verdict.{verdict_of};
 ghost use Rattle.readings.specs.Lines.{four_lines};
 ghost use Rattle.readings.specs.ReadBack.{capture_kept, read_kept};
 
 use super::lines;
 use super::refusal::Refusal;
-use verdict::Disagreement;
+use text::Page;
 
 fn read_into(
     input: &[u8],
     capture: &[u8],
     plain: &mut [u8],
     gates: &mut [u8],
-    out: &mut [u8],
-) -> Result<usize, Disagreement>
+    page: &mut Page,
+) -> bool
     requires { length plain.old ≤ 61449 }
-    ensures agreed { agreed_in result ≡ is_none (both_of capture.now plain.old gates.old).difference }
-    ensures writes { Wrote (page out.old 0) (verdict_of (four_lines input.now) (both_of capture.now plain.old gates.old) (replay_writes reset_machine capture.now plain.old)) (page out.new (length_in result)) }
+    ensures agreed { result ≡ is_none (both_of capture.now plain.old gates.old).difference }
+    ensures writes { Put page.old (verdict_of (four_lines input.now) (both_of capture.now plain.old gates.old) (replay_writes reset_machine capture.now plain.old)) page.new }
 {
     let b = comparison::replay_both(capture, &mut *plain, gates);
     match (b.outcome, b.difference) {
-        (Ok(()), None) => Ok(lines::put_lines(out, input, plain)),
-        _ => verdict::put_verdict(out, b, plain),
+        (Ok(()), None) => {
+            lines::put_lines(page, input, plain);
+            true
+        }
+        _ => verdict::put_verdict(page, b, plain),
     }
 }
 
@@ -39,25 +42,25 @@ fn capture_kept(bytes: &[u8], total: u64) -> &[u8]
     comparison::kept(rest, total.saturating_sub(texts as u64))
 }
 
-fn read_start(input: &[u8], total: u64, out: &mut [u8]) -> Result<usize, Disagreement>
-    ensures agreed { agreed_in result ≡ true }
-    ensures writes { Wrote (page out.old 0) (read_kept input.now total) (page out.new (length_in result)) }
+fn read_start(input: &[u8], total: u64, page: &mut Page) -> bool
+    ensures agreed { result ≡ true }
+    ensures writes { Put page.old (read_kept input.now total) page.new }
 {
     if due::ends_inside(input) {
-        let number = Refusal::CutShort.number();
-        return Ok(listing::put_refusal(out, 0, number, None));
+        listing::put_refusal(page, Refusal::CutShort.number(), None);
+        return true;
     }
     let capture = capture_kept(input, total);
     let n = capture.len();
     let mut plain = [0; 61449];
     let mut gates = [0; 61449];
-    read_into(input, capture, &mut plain[..n], &mut gates[..n], out)
+    read_into(input, capture, &mut plain[..n], &mut gates[..n], page)
 }
 
-// An input of `total` bytes stands at the start of `bytes`, or as much of it as has room there.
-pub fn read_back(bytes: &[u8], total: u64, out: &mut [u8]) -> Result<usize, Disagreement>
-    ensures agreed { agreed_in result ≡ true }
-    ensures writes { Wrote (page out.old 0) (read_kept (take total bytes.now) total) (page out.new (length_in result)) }
+// An input of `total` bytes stands at the start of `bytes`, or as much of it as has room there. It answers whether the engines agree.
+pub fn read_back(bytes: &[u8], total: u64, page: &mut Page) -> bool
+    ensures agreed { result ≡ true }
+    ensures writes { Put page.old (read_kept (take total bytes.now) total) page.new }
 {
-    read_start(text::part(bytes, 0, total as usize), total, out)
+    read_start(text::part(bytes, 0, total as usize), total, page)
 }

@@ -1,10 +1,8 @@
 -- A request as far as it could be read, and its reply.
-use Rattle.std.specs.Prelude.{◌≡◌, Bool, true, false, cond, not, ◌&&◌, List, [], ℕ, eqb, ltb, leb, length, Result}
+use Rattle.std.specs.Prelude.{Bool, true, false, cond, ◌&&◌, List, [], ℕ, eqb, ltb, leb, length}
 use Rattle.text.specs.Ascii.{ascii}
 use Rattle.records.specs.Record.{byte_at}
 use Rattle.parts.specs.Parts.{word_at}
-use Rattle.orders.specs.declared.words.LastLine.{LastLine}
-use Rattle.orders.specs.Said.{written_by, length_by}
 use Rattle.requests.specs.Letter.{too_long, line_of}
 
 -- how many bytes of payload there are to read
@@ -28,11 +26,3 @@ reply_of header payload =
     (cond (ltb (length header) 5) (lastly (ascii "cut short\n"))
     (cond (ltb 65536 (word_at header 1)) (lastly (ascii "too long\n"))
     (cond (ltb (length payload) (word_at header 1)) (lastly (ascii "cut short\n")) (answered (byte_at header 0) payload))))
-
--- whether the code's answer is the last; `length_by` says how many bytes of text there are
-abbrev pub last_by : Result ℕ LastLine → Bool
-last_by r = not (written_by r)
-
--- The two say all of the answer.
-abbrev pub ReplySettles : Type 0
-ReplySettles = (a b : Result ℕ LastLine) → last_by a ≡ last_by b → length_by a ≡ length_by b → a ≡ b

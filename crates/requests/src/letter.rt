@@ -1,10 +1,11 @@
 // One letter for each call.
 ghost use Rattle.std.specs.Prelude.{◌≡◌};
-ghost use Rattle.text.specs.Page.{page, Wrote};
+ghost use Rattle.text.specs.Page.{Put};
 ghost use Rattle.requests.specs.Letter.{too_long, later_line, line_of};
 
 use capture::Rules;
 use engine::Gates;
+use text::Page;
 
 // A buffer is asked for that is longer than there is room for.
 pub(crate) fn too_long(letter: u8, payload: &[u8]) -> bool
@@ -24,30 +25,30 @@ pub(crate) fn too_long(letter: u8, payload: &[u8]) -> bool
 
 // The calls that came after the base.
 #[tactic(auto, unfolding(crate::specs::Letter::later_line))]
-fn put_later_line(out: &mut [u8], letter: u8, payload: &[u8]) -> usize
-    ensures { Wrote (page out.old 0) (later_line letter payload.now) (page out.new result) }
+fn put_later_line(page: &mut Page, letter: u8, payload: &[u8])
+    ensures { Put page.old (later_line letter payload.now) page.new }
 {
     match letter {
-        b'W' => call_frames::put_write(out, payload),
-        b'K' => call_frames::put_read(out, payload),
-        b'N' => call_numerals::put_piece(out, payload),
-        b'H' => call_numerals::put_shown(out, payload),
-        _ => text::put_text(out, 0, b"unknown\n"),
+        b'W' => call_frames::put_write(page, payload),
+        b'K' => call_frames::put_read(page, payload),
+        b'N' => call_numerals::put_piece(page, payload),
+        b'H' => call_numerals::put_shown(page, payload),
+        _ => page.put_text(b"unknown\n"),
     }
 }
 
 #[tactic(auto, unfolding(crate::specs::Letter::line_of))]
-pub(crate) fn put_line(out: &mut [u8], letter: u8, payload: &[u8]) -> usize
-    ensures { Wrote (page out.old 0) (line_of letter payload.now) (page out.new result) }
+pub(crate) fn put_line(page: &mut Page, letter: u8, payload: &[u8])
+    ensures { Put page.old (line_of letter payload.now) page.new }
 {
     match letter {
-        b'C' => call_cycle::put_cycle(out, payload),
-        b'D' => call_cycle::put_gate_cycle(out, payload),
-        b'R' => call_replay::put_replay(&Rules, out, payload),
-        b'G' => call_replay::put_replay(&Gates, out, payload),
-        b'S' => call_replay::put_save(out, payload),
-        b'T' => call_replay::put_take_up(out, payload),
-        b'E' => call_gates::put_evaluate(out, payload),
-        _ => put_later_line(out, letter, payload),
+        b'C' => call_cycle::put_cycle(page, payload),
+        b'D' => call_cycle::put_gate_cycle(page, payload),
+        b'R' => call_replay::put_replay(&Rules, page, payload),
+        b'G' => call_replay::put_replay(&Gates, page, payload),
+        b'S' => call_replay::put_save(page, payload),
+        b'T' => call_replay::put_take_up(page, payload),
+        b'E' => call_gates::put_evaluate(page, payload),
+        _ => put_later_line(page, letter, payload),
     }
 }

@@ -1,11 +1,10 @@
 // A request as far as it was read, and its reply.
-ghost use Rattle.std.specs.Prelude.{◌≡◌, ◌≤◌};
-ghost use Rattle.text.specs.Page.{page, Wrote};
-ghost use Rattle.orders.specs.Said.{length_by};
-ghost use Rattle.requests.specs.Reply.{payload_length, last_by, reply_of};
+ghost use Rattle.std.specs.Prelude.{◌≡◌, ◌≤◌, true};
+ghost use Rattle.text.specs.Page.{Put};
+ghost use Rattle.requests.specs.Reply.{payload_length, reply_of};
 
 use super::letter;
-use orders::LastLine;
+use text::Page;
 
 // How many bytes of payload to read behind a header; none where the header is cut short or asks for too many.
 pub fn payload_length(header: &[u8]) -> usize
@@ -19,36 +18,38 @@ pub fn payload_length(header: &[u8]) -> usize
     }
 }
 
-// A line after which no more requests are answered.
-fn put_last(out: &mut [u8], text: &[u8]) -> LastLine
-    ensures { Wrote (page out.old 0) text.now (page out.new result.length) }
+// Puts a line after which no more requests are answered.
+fn put_last(page: &mut Page, text: &[u8]) -> bool
+    ensures last { result ≡ true }
+    ensures writes { Put page.old text.now page.new }
 {
-    let length = text::put_text(out, 0, text);
-    LastLine { length }
+    page.put_text(text);
+    true
 }
 
-// `header` and `payload` are what could be read of the two; answers how many bytes of text there are.
+// `header` and `payload` are what could be read of the two; answers whether the reply is the last.
 #[tactic(auto, unfolding(crate::specs::Reply::reply_of))]
-pub fn put_reply(out: &mut [u8], header: &[u8], payload: &[u8]) -> Result<usize, LastLine>
-    ensures last { last_by result ≡ (reply_of header.now payload.now).last }
-    ensures writes { Wrote (page out.old 0) (reply_of header.now payload.now).text (page out.new (length_by result)) }
+pub fn put_reply(page: &mut Page, header: &[u8], payload: &[u8]) -> bool
+    ensures last { result ≡ (reply_of header.now payload.now).last }
+    ensures writes { Put page.old (reply_of header.now payload.now).text page.new }
 {
     if header.is_empty() {
-        return Err(LastLine { length: 0 });
+        return true;
     }
     if header.len() < 5 {
-        return Err(put_last(out, b"cut short\n"));
+        return put_last(page, b"cut short\n");
     }
     let wanted = parts::word_at(header, 1);
     if 65536 < wanted {
-        return Err(put_last(out, b"too long\n"));
+        return put_last(page, b"too long\n");
     }
     if (payload.len() as u64) < wanted {
-        return Err(put_last(out, b"cut short\n"));
+        return put_last(page, b"cut short\n");
     }
     let letter = header[0];
     if letter::too_long(letter, payload) {
-        return Err(put_last(out, b"too long\n"));
+        return put_last(page, b"too long\n");
     }
-    Ok(letter::put_line(out, letter, payload))
+    letter::put_line(page, letter, payload);
+    false
 }

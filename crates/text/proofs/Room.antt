@@ -9,8 +9,13 @@ use lib.Dec.{ltb}
 use lib.ListN.{length, take, drop, set, length-set, take-append-drop}
 use lib.Seq.{take-suc-set, drop-set-lt, append_snoc, take-append_seam, length-take-le}
 use borrow.Author.Tests.{ltb-true}
-use Rattle.text.specs.Page.{Page, page, put, puts, Wrote}
+use Rattle.text.specs.declared.page.Page.{Page as Sheet}
+use Rattle.text.specs.Page.{Page, page, put, puts, Wrote, Blank, Put}
 use Rattle.text.proofs.Pages.{put_there}
+
+-- a text put onto a page of the code on which nothing stood
+pub onto : {bytes text : List ℕ} {p q : Sheet} → Blank bytes p → Put p text q → Wrote (page bytes 0) text (page q.bytes.now q.place)
+onto {text = text} blank w = rw (blank.bytes_are, blank.at_start) at w.wrote
 
 -- a place on the page stays on the page
 put_within : (p : Page) (b : ℕ) (t : Bool) → ltb p.place (length p.bytes) ≡ t → p.place ≤ length p.bytes → (put p b).place ≤ length (put p b).bytes

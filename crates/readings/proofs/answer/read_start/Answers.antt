@@ -8,7 +8,7 @@ use Rattle.readings.proofs.answer.read_start.Goals as goal
 pub returns-then-ends_inside : goal.returns-then-ends_inside
 returns-then-ends_inside c =
     let bytes = c.args.input.now in
-    record { agreed = refl; writes = spelt c.put_refusal.ensures (cut_short_by bytes _ c.number-number.ensures (sym c.ends_inside.ensures ∙ c.if-ends_inside.true)) }
+    record { agreed = refl; writes = spelt c.put_refusal.ensures (cut_short_by bytes _ c.number.ensures (sym c.ends_inside.ensures ∙ c.if-ends_inside.true)) }
 
 pub returns : goal.returns
 returns c =

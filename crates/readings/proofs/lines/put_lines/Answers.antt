@@ -8,7 +8,7 @@ unfolding first_lines
 loop-h-init c = nothing _
 
 pub loop-h-preserved : goal.loop-h-preserved
-loop-h-preserved c = one_more _ _ _ c.loop-h.invariant c.put_head-next.ensures
+loop-h-preserved c = one_more _ _ _ c.loop-h.invariant c.put_head.ensures
 
 pub returns : goal.returns
 returns c = let end : c.loop-h.h ≡ 4 = omega arith in

@@ -10,16 +10,16 @@ returns-then-is_empty-clause-writes c = spelt (nothing _) (search (tests, rules)
 
 pub returns-then-header-lt5-clause-writes : goal.returns-then-header-lt5-clause-writes
 unfolding reply_of
-returns-then-header-lt5-clause-writes c = spelt c.put_last.ensures (search (tests, rules))
+returns-then-header-lt5-clause-writes c = spelt c.put_last.ensures.writes (search (tests, rules))
 
 pub returns-then-wanted-gt65536-clause-writes : goal.returns-then-wanted-gt65536-clause-writes
 unfolding reply_of
-returns-then-wanted-gt65536-clause-writes c = spelt c.put_last-then-wanted-gt65536.ensures (search (tests, rules))
+returns-then-wanted-gt65536-clause-writes c = spelt c.put_last-then-wanted-gt65536.ensures.writes (search (tests, rules))
 
 pub returns-then-payload-wanted-clause-writes : goal.returns-then-payload-wanted-clause-writes
 unfolding reply_of
-returns-then-payload-wanted-clause-writes c = spelt c.put_last-then-payload-wanted.ensures (search (tests, rules))
+returns-then-payload-wanted-clause-writes c = spelt c.put_last-then-payload-wanted.ensures.writes (search (tests, rules))
 
 pub returns-then-too_long-clause-writes : goal.returns-then-too_long-clause-writes
 unfolding reply_of
-returns-then-too_long-clause-writes c = spelt c.put_last-then-too_long.ensures (search (tests, rules))
+returns-then-too_long-clause-writes c = spelt c.put_last-then-too_long.ensures.writes (search (tests, rules))
