@@ -34,13 +34,16 @@ fn answer_one<R: Read>(rt: &HostRuntime, from: &mut R, out: &mut [u8]) -> bool {
         let _ = input::write_all(rt, Stream::Error, b"cannot read the requests\n");
         return false;
     };
-    let r = requests::put_reply(&mut *out, &header[..h], &payload[..p]);
-    let length = r.length;
+    let reply = requests::put_reply(&mut *out, &header[..h], &payload[..p]);
+    let length = match reply {
+        Ok(length) => length,
+        Err(last) => last.length,
+    };
     if input::write_all(rt, Stream::Output, &out[..length]).is_err() {
         let _ = input::write_all(rt, Stream::Error, b"cannot write the answers\n");
         return false;
     }
-    !r.last
+    reply.is_ok()
 }
 
 // A proved loop has to end, and nothing says that the requests do: it takes its turns, up to a number that no run uses up.
