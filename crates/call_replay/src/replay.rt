@@ -46,6 +46,7 @@ fn put_replay_into<E: Engine>(
 }
 
 // All engines leave the same, so that one definition serves both letters.
+#[tactic(auto, unfolding(crate::specs::Replay::replay_line))]
 pub fn put_replay<E: Engine>(engine: &E, out: &mut [u8], payload: &[u8]) -> usize
     ensures { Wrote (page out.old 0) (replay_line payload.now) (page out.new result) }
 {

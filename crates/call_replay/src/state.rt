@@ -15,6 +15,7 @@ fn put_save_into(out: &mut [u8], payload: &[u8], buffer: &mut [u8]) -> usize
     parts::put_buffer(out, u64::from(number), buffer)
 }
 
+#[tactic(auto, unfolding(crate::specs::State::save_line))]
 pub fn put_save(out: &mut [u8], payload: &[u8]) -> usize
     ensures { Wrote (page out.old 0) (save_line payload.now) (page out.new result) }
 {

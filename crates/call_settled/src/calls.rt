@@ -17,6 +17,7 @@ fn put_heads(out: &mut [u8], heads: [bool; 4]) -> usize
     text::put_byte(out, next, b'\n')
 }
 
+#[tactic(auto, unfolding(crate::specs::Calls::ahead_line))]
 pub fn put_ahead(out: &mut [u8], payload: &[u8]) -> usize
     ensures { Wrote (page out.old 0) (ahead_line payload.now) (page out.new result) }
 {
