@@ -42,6 +42,7 @@ fn put_replay_into<E: Engine>(engine: &E, page: &mut Page, payload: &[u8], buffe
 }
 
 // All engines leave the same, so that one definition serves both letters.
+#[tactic(auto, unfolding(crate::specs::Replay::replay_line))]
 pub fn put_replay<E: Engine>(engine: &E, page: &mut Page, payload: &[u8])
     ensures { Put page.old (replay_line payload.now) page.new }
 {

@@ -16,6 +16,7 @@ fn put_save_into(page: &mut Page, payload: &[u8], buffer: &mut [u8])
     parts::put_buffer(page, u64::from(number), buffer);
 }
 
+#[tactic(auto, unfolding(crate::specs::State::save_line))]
 pub fn put_save(page: &mut Page, payload: &[u8])
     ensures { Put page.old (save_line payload.now) page.new }
 {

@@ -18,6 +18,7 @@ fn put_heads(page: &mut Page, heads: [bool; 4])
     page.put_byte(b'\n');
 }
 
+#[tactic(auto, unfolding(crate::specs::Calls::ahead_line))]
 pub fn put_ahead(page: &mut Page, payload: &[u8])
     ensures { Put page.old (ahead_line payload.now) page.new }
 {

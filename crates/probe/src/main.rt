@@ -7,6 +7,7 @@ ghost use Rattle.io.specs.Counts.{IsPrefixLen};
 
 use input::Stream;
 use std::io::{Read, Result};
+use text::Page;
 
 // Reads a header and the payload that it announces, and answers how many bytes there are of each.
 fn read_request<R: Read>(
@@ -34,22 +35,22 @@ fn answer_one<R: Read>(rt: &HostRuntime, from: &mut R, out: &mut [u8]) -> bool {
         let _ = input::write_all(rt, Stream::Error, b"cannot read the requests\n");
         return false;
     };
-    let r = requests::put_reply(&mut *out, &header[..h], &payload[..p]);
-    let length = r.length;
-    if input::write_all(rt, Stream::Output, &out[..length]).is_err() {
+    let mut page = Page::new(out);
+    let last = requests::put_reply(&mut page, &header[..h], &payload[..p]);
+    if input::write_all(rt, Stream::Output, page.text()).is_err() {
         let _ = input::write_all(rt, Stream::Error, b"cannot write the answers\n");
         return false;
     }
-    !r.last
+    !last
 }
 
 // A proved loop has to end, and nothing says that the requests do: it takes its turns, up to a number that no run uses up.
 fn main(rt: HostRuntime) {
     let mut from = rt.stdin();
     // room for the longest line: 65,536 bytes in hex, and what stands before them
-    let mut page = [0u8; 131328];
+    let mut space = [0u8; 131328];
     for _ in 0..u64::MAX {
-        if !answer_one(&rt, &mut from, &mut page) {
+        if !answer_one(&rt, &mut from, &mut space) {
             break;
         }
     }

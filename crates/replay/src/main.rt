@@ -2,40 +2,34 @@
 // do, on standard error.
 #![tactic(auto)]
 
-ghost use Rattle.std.specs.Prelude.{true, ◌≡◌, ◌≤◌, length, IfOk, IfSome};
-ghost use Rattle.text.specs.Page.{page, Wrote};
+ghost use Rattle.std.specs.Prelude.{true, ◌≡◌, IfOk, IfSome};
+ghost use Rattle.text.specs.Page.{Put};
 ghost use Rattle.verdict.specs.Printed.{printed};
 
 use input::Stream;
 use std::io::{Read, Result};
-use verdict::Verdict;
+use text::Page;
 
-// Puts what is printed of a capture on the page; the capture is all that the reader has.
-fn put_printed<R: Read>(from: &mut R, out: &mut [u8]) -> Result<Verdict>
-    ensures agreed { IfOk result (λ v. v.agreed ≡ true) }
-    ensures within { IfOk result (λ v. v.length ≤ length out.new) }
-    ensures writes { IfOk result (λ v. IfSome (R.remaining from.old)
-        (λ capture. Wrote (page out.old 0) (printed capture) (page out.new v.length))) }
+// Puts what is printed of a capture on the page, and answers whether the engines agree; the capture is all that the reader has.
+fn put_printed<R: Read>(from: &mut R, page: &mut Page) -> Result<bool>
+    ensures agreed { IfOk result (λ agreed. agreed ≡ true) }
+    ensures writes { IfOk result (λ agreed. IfSome (R.remaining from.old)
+        (λ capture. Put page.old (printed capture) page.new)) }
 {
     let mut kept = [0u8; 65536];
     let total = input::take_in(from, &mut kept)?;
-    Ok(verdict::replay_by_both(&kept, total, out))
+    Ok(verdict::replay_by_both(&kept, total, page))
 }
 
 fn main(rt: HostRuntime) {
     // room for the longest listing
-    let mut page = [0u8; 262144];
-    let Ok(v) = put_printed(&mut rt.stdin(), &mut page) else {
+    let mut space = [0u8; 262144];
+    let mut page = Page::new(&mut space);
+    let Ok(agreed) = put_printed(&mut rt.stdin(), &mut page) else {
         let _ = input::write_all(&rt, Stream::Error, b"cannot read the capture\n");
         return;
     };
-    let n = v.length;
-    let stream = if verdict::stream(v.agreed) == 1 {
-        Stream::Output
-    } else {
-        Stream::Error
-    };
-    if input::write_all(&rt, stream, &page[..n]).is_err() {
+    if input::write_all(&rt, verdict::stream(agreed), page.text()).is_err() {
         let _ = input::write_all(&rt, Stream::Error, b"cannot write the listing\n");
     }
 }

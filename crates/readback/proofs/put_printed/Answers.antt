@@ -1,20 +1,17 @@
 use Rattle.std.proofs.Common.{◌≡◌, ℕ, List, length, take, Option, None, Some, IfSome, sym, ap, ◌∙◌, rules}
-use Rattle.text.specs.Page.{Page, Wrote}
+use Rattle.text.specs.declared.page.Page.{Page}
+use Rattle.text.specs.Page.{Put}
 use Rattle.text.proofs.Pages.{spelt}
-use Rattle.text.proofs.Room.{within}
 use Rattle.readings.specs.ReadBack.{read_kept}
 use Rattle.readback.proofs.put_printed.Goals as goal
 
 -- of a buffer with the start of what a reader had, and of how much that was
 of_reader : (known : Option (List ℕ)) (buffer : List ℕ) (n : ℕ) {before after : Page} → 65536 ≡ length buffer
     → IfSome known (λ whole. n ≡ length whole) → IfSome known (λ whole. take n buffer ≡ take (length buffer) whole)
-    → Wrote before (read_kept (take n buffer) n) after → IfSome known (λ whole. Wrote before (read_kept (take 65536 whole) (length whole)) after)
+    → Put before (read_kept (take n buffer) n) after → IfSome known (λ whole. Put before (read_kept (take 65536 whole) (length whole)) after)
 of_reader None buffer n room long start w = tt
 of_reader (Some whole) buffer n room long start w =
     spelt w (ap (λ (l : List ℕ). read_kept l n) (start ∙ ap (λ k. take k whole) (sym room)) ∙ ap (read_kept (take 65536 whole)) long)
-
-pub returns-clause-within : goal.returns-clause-within
-returns-clause-within g c = within c.read_back.ensures.writes
 
 pub returns-clause-writes : goal.returns-clause-writes
 returns-clause-writes g c =

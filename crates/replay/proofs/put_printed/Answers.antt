@@ -1,9 +1,9 @@
 use Rattle.std.proofs.Common.{◌≡◌, ◌≤◌, ℕ, Bool, true, false, List, length, take, ltb, Option, None, Some, IfSome, refl, sym, ap, ◌∙◌, arith, rules}
 use lib.Seq.{take-take}
 use borrow.Author.Tests.{ltb-true, ltb-false}
-use Rattle.text.specs.Page.{Page, Wrote}
+use Rattle.text.specs.declared.page.Page.{Page}
+use Rattle.text.specs.Page.{Put}
 use Rattle.text.proofs.Pages.{spelt}
-use Rattle.text.proofs.Room.{within}
 use Rattle.comparison.specs.Both.{kept_length, kept}
 use Rattle.comparison.proofs.Inputs.{kept_long, kept_whole}
 use Rattle.verdict.specs.Printed.{printed}
@@ -26,12 +26,9 @@ module _ (buffer whole : List ℕ) (n : ℕ) where
 -- of a buffer with the start of what a reader had, and of how much that was, the same is printed as of the whole
 of_reader : (known : Option (List ℕ)) (buffer : List ℕ) (n : ℕ) {before after : Page} → 65536 ≡ length buffer
     → IfSome known (λ whole. n ≡ length whole) → IfSome known (λ whole. take n buffer ≡ take (length buffer) whole)
-    → Wrote before (printed (kept buffer n)) after → IfSome known (λ whole. Wrote before (printed whole) after)
+    → Put before (printed (kept buffer n)) after → IfSome known (λ whole. Put before (printed whole) after)
 of_reader None buffer n room long start w = tt
 of_reader (Some whole) buffer n room long start w = spelt w (printed_whole buffer whole n room long start)
-
-pub returns-clause-within : goal.returns-clause-within
-returns-clause-within g c = within c.replay_by_both.ensures.writes
 
 pub returns-clause-writes : goal.returns-clause-writes
 returns-clause-writes g c =

@@ -1,5 +1,5 @@
 use mathlib.Core.Path.{ap, ◌∙◌}
-use borrow.Author.Tests.{lt-ltb, le-ltb}
+use borrow.Author.Tests.{le-ltb}
 use Rattle.text.proofs.Lists.{part_length}
 use Rattle.text.proofs.Pages.{spelt}
 use Rattle.call_replay.specs.Replay.{replay_text, replay_line}
@@ -8,10 +8,6 @@ use Rattle.call_replay.proofs.replay.put_replay.Goals as goal
 
 pub slice_bounds-put_replay_into-end : goal.slice_bounds-put_replay_into-end
 slice_bounds-put_replay_into-end g c = part_length 165 _ 65536 c.marks-space.ensures c.room_at-room.ensures.1
-
-pub returns-then-payload-lt29 : goal.returns-then-payload-lt29
-unfolding replay_line
-returns-then-payload-lt29 g c = spelt c.put_text.ensures rw (lt-ltb _ _ c.if-payload-lt29.true)
 
 pub returns : goal.returns
 unfolding replay_line

@@ -1,5 +1,5 @@
 use mathlib.Core.Path.{ap, ◌∙◌}
-use borrow.Author.Tests.{eq-eqb, ne_eqb}
+use borrow.Author.Tests.{eq-eqb}
 use Rattle.text.proofs.Lists.{part_length}
 use Rattle.text.proofs.Pages.{spelt}
 use Rattle.call_replay.specs.State.{save_text, save_line}
@@ -8,10 +8,6 @@ use Rattle.call_replay.proofs.state.put_save.Goals as goal
 
 pub slice_bounds-put_save_into-end : goal.slice_bounds-put_save_into-end
 slice_bounds-put_save_into-end c = part_length 165 _ 65536 c.marks-space.ensures c.room_at-room.ensures.1
-
-pub returns-then-payload-ne29 : goal.returns-then-payload-ne29
-unfolding save_line
-returns-then-payload-ne29 c = spelt c.put_text.ensures rw (ne_eqb _ _ c.if-payload-ne29.true)
 
 pub returns : goal.returns
 unfolding save_line

@@ -1,7 +1,7 @@
 use mathlib.Core.Path.{ap, ◌∙◌}
 use mathlib.Core.List.{List}
 use Prim.Native.Nat.{ℕ}
-use borrow.Author.Tests.{eq-eqb, ne_eqb}
+use borrow.Author.Tests.{eq-eqb}
 use Rattle.text.proofs.Pages.{spelt}
 use Rattle.routing.specs.Four.{four}
 use Rattle.routing.proofs.Equal.{two}
@@ -10,10 +10,6 @@ use Rattle.fabric.specs.Cycle.{machine}
 use Rattle.settled.specs.Ahead.{on_its_way}
 use Rattle.call_settled.specs.Calls.{heads_text, ahead_line}
 use Rattle.call_settled.proofs.calls.put_ahead.Goals as goal
-
-pub returns-then-payload-ne25 : goal.returns-then-payload-ne25
-unfolding ahead_line
-returns-then-payload-ne25 c = spelt c.put_text.ensures rw (ne_eqb _ _ c.if-payload-ne25.true)
 
 pub returns : goal.returns
 unfolding ahead_line
