@@ -58,6 +58,6 @@ module _ {F A B : Type 0} (g : Mut F (A × Unit {0}) B) (h : A → B) (f : F)
       let given = λ (k : ℕ). h (get_or xs k d) in
       same_lists ys (map given (range_with_len 0 n)) (maps.long ∙ sym (length-map-range_with_len given 0 n))
       (λ k e l.
-          let below : k < n = omega (arith, maps.long) in
-          let at = mapped_at xs ys 0 n maps.each k e (omega arith) (omega arith) in
-          at.2 ∙ ap h (sym (at.1 d)) ∙ sym (get_or-map-range_with_len given 0 n k k e below (omega arith)))
+      let below : k < n = omega (arith, maps.long) in
+      let at = mapped_at xs ys 0 n maps.each k e (omega arith) (omega arith) in
+      at.2 ∙ ap h (sym (at.1 d)) ∙ sym (get_or-map-range_with_len given 0 n k k e below (omega arith)))
