@@ -52,7 +52,7 @@ fn put_report(page: &mut Page, report: Report)
     }
 }
 
-// Number, state and answer record.
+// Number, state and answer record, as they are printed: there 0 is done.
 fn put_numbered(page: &mut Page, number: u8, m: Moved)
     ensures { Put page.old (cycled_text (numbered number m)) page.new }
 {

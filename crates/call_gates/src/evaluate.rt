@@ -27,6 +27,7 @@ fn words_from(payload: &[u8], n: usize) -> [u32; 128]
     words
 }
 
+// The three as they are printed: there 0 is done.
 fn put_answer(page: &mut Page, number: u8, index: usize, value: u64)
     ensures { Put page.old (evaluated_text (record { number = number; index = index; value = value })) page.new }
 {

@@ -8,6 +8,7 @@ use capture::Engine;
 use states::{Machine, Refused};
 use text::Page;
 
+// Number and index as they are printed: there 0 is done.
 fn put_handed_back(page: &mut Page, number: u8, index: usize, m: Machine, buffer: &[u8])
     ensures { Put page.old (replayed_text (handed_back number index m) buffer.now) page.new }
 {

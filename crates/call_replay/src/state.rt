@@ -28,6 +28,7 @@ pub fn put_save(page: &mut Page, payload: &[u8])
     put_save_into(page, payload, &mut space[..room]);
 }
 
+// The number as it is printed: there 0 is done.
 fn put_machine(page: &mut Page, number: u8, m: Machine)
     ensures { Put page.old (taken_up_text (record { number = number; machine = m })) page.new }
 {

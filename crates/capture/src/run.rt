@@ -22,6 +22,7 @@ fn run<E: Engine>(
     ensures writes { buffer.new ≡ answers (machine s rows) capture.now ++ drop (5 * records capture.now) buffer.old }
 {
     let mut m = Machine { state: s, rows };
+    // by places and not by `chunks_exact_mut`: once such a part is given back, a proof knows how long the buffer is and not its bytes
     for k in 0..capture.len() / 5 {
         let i = records::inputs_from(places::record_at(capture, k));
         let t = engine.step(m.state, m.rows, i);

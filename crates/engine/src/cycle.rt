@@ -80,6 +80,7 @@ impl Engine for Gates {
     }
 }
 
+// Not one call with the plain single cycle, which answers a report too: what the two share is the three lines of a refusal.
 // A single cycle: the gates where the state is accepted, otherwise its refusal with the state and the rows as given.
 pub fn single_cycle(s: State, rows: [[u8; 4]; 4], i: Inputs) -> Result<Moved, Refused>
     ensures { gate_answer result ≡ without_report (cycle_of (machine s rows) i) }

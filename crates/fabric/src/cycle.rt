@@ -43,6 +43,7 @@ fn passes(s: State, acks: [bool; 4], i: Input, o: usize) -> bool
 fn acked(s: State, acks: [bool; 4], i: Input) -> bool
     ensures { result ≡ acked s acks i.0 }
 {
+    // four in a row: over `any` the check stops at its limit
     passes(s, acks, i, 0) || passes(s, acks, i, 1) || passes(s, acks, i, 2) || passes(s, acks, i, 3)
 }
 

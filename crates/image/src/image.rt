@@ -16,6 +16,7 @@ pub fn image_of(m: Machine) -> [u8; 25]
         holders,
     } = m.state;
     let [first, second, switched, heads] = m.rows;
+    // byte by byte, so that the layout can be read off here
     [
         u8::from(waiting),
         u8::from(shut[0]),

@@ -16,6 +16,7 @@ fn put_index(page: &mut Page, index: Option<usize>)
     }
 }
 
+// The number is what is printed: the refusals of several enums have such a line.
 pub fn put_refusal(page: &mut Page, number: u8, index: Option<usize>)
     ensures { Put page.old (refusal_line number index) page.new }
 {

@@ -23,7 +23,7 @@ pub fn long_at(bytes: &[u8], k: u8) -> u64
     u64::from_be_bytes(array::from_fn(|i| image::byte_at(bytes, at + i)))
 }
 
-// The longest buffer that a call is lent, as it is before the call.
+// The longest buffer that a call is lent, as it is before the call; a call of its own, since what it holds is promised once, for every caller.
 pub fn marks() -> [u8; 65536]
     ensures { result ≡ marked 65536 }
 {

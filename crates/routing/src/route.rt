@@ -7,6 +7,8 @@ ghost use Rattle.routing.specs.Route.{asked, remains, winner, routes, decided, o
 use super::port::{Input, Output};
 use super::{header, turn};
 
+// No `Option` and no array, here and in the next two: document 01 names the form, an enum for each output, in four named fields of a struct
+// that the report's enum carries.
 #[derive(Clone, Copy)]
 pub enum Outcome {
     Quiet,

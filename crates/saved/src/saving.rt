@@ -14,6 +14,7 @@ fn word(s: State) -> u16
     requires { Held s }
     ensures { result ≡ word_of s }
 {
+    // field by field, so that the layout can be read off here
     let flags = 32768 * u16::from(s.waiting)
         + 16384 * u16::from(s.shut[3])
         + 8192 * u16::from(s.shut[2])

@@ -1,11 +1,12 @@
 // Four quiet cycles ahead: what is inside the fabric has been shown by then, or never will be.
-ghost use Rattle.std.specs.Prelude.{◌≡◌};
+ghost use Rattle.std.specs.Prelude.{◌≡◌, ◌<◌};
 ghost use Rattle.routing.specs.Four.{four};
 ghost use Rattle.fabric.specs.Cycle.{machine, moved_of};
 ghost use Rattle.settled.specs.Ahead.{quiet_cycle, some_shown, on_its_way};
 
 use fabric::{Inputs, Moved};
 use states::{Machine, State};
+use std::array;
 
 fn quiet_cycle() -> Inputs
     ensures { result ≡ quiet_cycle }
@@ -28,12 +29,12 @@ fn next(m: Machine) -> Moved
 fn some_shown(a: [u8; 4], b: [u8; 4], c: [u8; 4], d: [u8; 4]) -> [bool; 4]
     ensures { result ≡ four (some_shown a b c d) }
 {
-    [
-        !(a[0] == 0) | !(b[0] == 0) | !(c[0] == 0) | !(d[0] == 0),
-        !(a[1] == 0) | !(b[1] == 0) | !(c[1] == 0) | !(d[1] == 0),
-        !(a[2] == 0) | !(b[2] == 0) | !(c[2] == 0) | !(d[2] == 0),
-        !(a[3] == 0) | !(b[3] == 0) | !(c[3] == 0) | !(d[3] == 0),
-    ]
+    array::from_fn(
+        |h|
+            requires { h < 4 }
+            ensures { result ≡ some_shown a b c d h }
+        { !(a[h] == 0) || !(b[h] == 0) || !(c[h] == 0) || !(d[h] == 0) },
+    )
 }
 
 // For heads 0..3, whether something is on its way there. It runs the cycle rules on, so it stays right where a rule changes.

@@ -67,6 +67,7 @@ fn shares_holder(s: State, a: usize, b: usize) -> bool
 fn held_twice(s: State) -> bool
     ensures { result ≡ held_twice s }
 {
+    // the six pairs one by one: over `any` in an `any` the check stops at its limit
     shares_holder(s, 0, 1)
         || shares_holder(s, 0, 2)
         || shares_holder(s, 0, 3)
