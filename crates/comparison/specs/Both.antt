@@ -1,5 +1,5 @@
 -- A capture of any size through both engines from reset.
-use Rattle.std.specs.Prelude.{◌≡◌, cond, List, Option, Some, None, ℕ, ◌+◌, ◌%◌, eqb, ltb, length, take, replicate, Result, Ok, Err}
+use Rattle.std.specs.Prelude.{Bool, ◌||◌, ◌≡◌, cond, List, Option, Some, None, ℕ, ◌+◌, ◌%◌, eqb, ltb, length, take, replicate, Result, Ok, Err}
 use Rattle.states.specs.declared.refusal.Refusal.{Refusal}
 use Rattle.states.specs.Refusal.{number_in, place_of}
 use Rattle.fabric.specs.Run.{reset_machine}
@@ -33,9 +33,13 @@ place_in (Err r) = place_of r
 abbrev pub told : Compared → Both
 told b = record { number = number_in b.outcome; index = place_in b.outcome; difference = b.difference }
 
--- The index that is printed with a number: a bad record's with 3, and none with another.
+-- the numbers that give an index: a bad record, a wrong gate word, a net read too early
+abbrev pub indexed : ℕ → Bool
+indexed number = eqb number 3 || eqb number 11 || eqb number 12
+
+-- the index that is printed with a number
 abbrev pub index_given : ℕ → ℕ → Option ℕ
-index_given number index = cond (eqb number 3) (Some index) None
+index_given number index = cond (indexed number) (Some index) None
 
 -- They tell it: two answers that are told alike are the same.
 abbrev pub ToldApart : Type 0
