@@ -1,6 +1,6 @@
 //! The text of a replay: the listing, or the refusal line.
 //!
-//! Every call puts its text onto a page, a lent buffer and a place in it, and hands back the next place (crate `text`).
+//! Every call puts its text onto a page (crate `text`).
 
 #![tactic(auto)]
 
