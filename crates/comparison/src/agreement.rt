@@ -23,7 +23,7 @@ fn same_end(p: Result<Machine, Refused>, g: Result<Machine, Refused>) -> bool
     }
 }
 
-// The first record whose answers differ; where only number, index or end state do, the place past the last record.
+// The first record whose answers differ; where only the refusals or the machines at the end do, the place past the last record.
 pub fn disagreement(
     p: Result<Machine, Refused>,
     g: Result<Machine, Refused>,

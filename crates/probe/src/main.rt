@@ -6,7 +6,7 @@ ghost use Rattle.std.specs.Io.KnownBytes.{Consumes};
 ghost use Rattle.io.specs.Counts.{IsPrefixLen};
 
 use input::Stream;
-use std::io::{Read, Result};
+use std::io::{self, Read};
 use text::Page;
 
 // Reads a header and the payload that it announces, and answers how many bytes there are of each.
@@ -14,7 +14,7 @@ fn read_request<R: Read>(
     from: &mut R,
     header: &mut [u8],
     payload: &mut [u8],
-) -> Result<(usize, usize)>
+) -> io::Result<(usize, usize)>
     requires { 65536 ≡ length payload.old }
     ensures header { IfOk result (λ n. IsPrefixLen n.0 header.new) }
     ensures payload { IfOk result (λ n. IsPrefixLen n.1 payload.new) }
@@ -27,21 +27,23 @@ fn read_request<R: Read>(
     Ok((h, p))
 }
 
-// Reads a request, writes its line, and answers whether to go on.
-fn answer_one<R: Read>(rt: &HostRuntime, from: &mut R, out: &mut [u8]) -> bool {
+// Reads a request, writes its line, and answers whether to go on, or what went wrong.
+fn answer_one<R: Read>(
+    rt: &HostRuntime,
+    from: &mut R,
+    out: &mut [u8],
+) -> Result<bool, &'static [u8]> {
     let mut header = [0u8; 5];
     let mut payload = [0u8; 65536];
     let Ok((h, p)) = read_request(from, &mut header, &mut payload) else {
-        let _ = input::write_all(rt, Stream::Error, b"cannot read the requests\n");
-        return false;
+        return Err(b"cannot read the requests\n");
     };
     let mut page = Page::new(out);
     let last = requests::put_reply(&mut page, &header[..h], &payload[..p]);
-    if input::write_all(rt, Stream::Output, page.text()).is_err() {
-        let _ = input::write_all(rt, Stream::Error, b"cannot write the answers\n");
-        return false;
+    match input::write_all(rt, Stream::Output, page.text()) {
+        Ok(()) => Ok(!last),
+        Err(_) => Err(b"cannot write the answers\n"),
     }
-    !last
 }
 
 // A proved loop has to end, and nothing says that the requests do: it takes its turns, up to a number that no run uses up.
@@ -50,8 +52,13 @@ fn main(rt: HostRuntime) {
     // room for the longest line: 65,536 bytes in hex, and what stands before them
     let mut space = [0u8; 131328];
     for _ in 0..u64::MAX {
-        if !answer_one(&rt, &mut from, &mut space) {
-            break;
+        match answer_one(&rt, &mut from, &mut space) {
+            Ok(true) => {}
+            Ok(false) => break,
+            Err(trouble) => {
+                let _ = input::write_all(&rt, Stream::Error, trouble);
+                break;
+            }
         }
     }
 }

@@ -7,11 +7,11 @@ ghost use Rattle.text.specs.Page.{Put};
 ghost use Rattle.readings.specs.ReadBack.{read_kept};
 
 use input::Stream;
-use std::io::{Read, Result};
+use std::io::{self, Read};
 use text::Page;
 
 // Puts what is printed of texts and a capture on the page; they are all that the reader has. Of an input of bytes it is what is printed of the whole.
-fn put_printed<R: Read>(from: &mut R, page: &mut Page) -> Result<bool>
+fn put_printed<R: Read>(from: &mut R, page: &mut Page) -> io::Result<bool>
     ensures agreed { IfOk result (λ agreed. agreed ≡ true) }
     ensures writes { IfOk result (λ agreed. IfSome (R.remaining from.old)
         (λ whole. Put page.old (read_kept (take 65536 whole) (length whole)) page.new)) }
@@ -21,16 +21,22 @@ fn put_printed<R: Read>(from: &mut R, page: &mut Page) -> Result<bool>
     Ok(readings::read_back(&kept, total, page))
 }
 
-fn main(rt: HostRuntime) {
+// Writes what is printed, or answers what went wrong.
+fn answer(rt: &HostRuntime) -> Result<(), &'static [u8]> {
     // room for the longest lines: four pieces of 12,288 bytes in hex, and what stands around them
     let mut space = [0u8; 131072];
     let mut page = Page::new(&mut space);
     let Ok(agreed) = put_printed(&mut rt.stdin(), &mut page) else {
-        let words = b"cannot read the texts and the capture\n";
-        let _ = input::write_all(&rt, Stream::Error, words);
-        return;
+        return Err(b"cannot read the texts and the capture\n");
     };
-    if input::write_all(&rt, verdict::stream(agreed), page.text()).is_err() {
-        let _ = input::write_all(&rt, Stream::Error, b"cannot write the lines\n");
+    match input::write_all(rt, verdict::stream(agreed), page.text()) {
+        Ok(()) => Ok(()),
+        Err(_) => Err(b"cannot write the lines\n"),
+    }
+}
+
+fn main(rt: HostRuntime) {
+    if let Err(trouble) = answer(&rt) {
+        let _ = input::write_all(&rt, Stream::Error, trouble);
     }
 }

@@ -21,7 +21,9 @@ use Rattle.heads.specs.Shown.{head_text}
 use Rattle.heads.proofs.Shows.{at_most}
 use Rattle.due.specs.Texts.{ends_inside}
 use Rattle.readings.specs.Lines.{line_of, four_lines}
-use Rattle.readings.specs.ReadBack.{read_with}
+use Rattle.readings.specs.declared.refusal.Refusal as Short
+use Rattle.readings.specs.declared.refusal.Refusal.TheVariants.{CutShort}
+use Rattle.readings.specs.ReadBack.{number_of, read_with}
 
 -- a head's bytes have room in the space that is lent for them
 pub collected : (answers : List ℕ) (h : ℕ) {p q : Page} → records answers ≤ 12289 → Blank (zeros 12289) p → Put p (head_text answers h) q
@@ -58,6 +60,9 @@ module _ (said : List ℕ → List ℕ) (b : Both) (answers : List ℕ) where
   refused_said {why = why} e =
       let no : number_in b.outcome ≡ 0 → ⊥ = λ z. never_0 why (sym (ap number_in e) ∙ z) in
       ap (unless_differ b.difference) (sym (refused_text_lem listing _ _ answers no) ∙ refused_text_lem said _ _ answers no)
+
+pub always_25 : (why : Short.Refusal) → number_of why ≡ 25
+always_25 CutShort = refl
 
 module _ (input capture : List ℕ) where
   pub cut_short : ends_inside input ≡ true → refusal_line 25 None ≡ read_with input capture

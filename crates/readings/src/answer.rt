@@ -1,10 +1,11 @@
 // What is printed of an input, of which the start is kept and all is counted.
-ghost use Rattle.std.specs.Prelude.{true, ◌≡◌, ◌≤◌, length, take, is_none};
+ghost use Rattle.std.specs.Prelude.{true, ◌≡◌, ◌≤◌, length, take, is_none, is_err, IfOk};
 ghost use Rattle.text.specs.Page.{Put};
 ghost use Rattle.fabric.specs.Run.{reset_machine};
 ghost use Rattle.capture.specs.Replay.{replay_writes};
 ghost use Rattle.comparison.specs.Both.{both_of};
 ghost use Rattle.verdict.specs.Verdict.{verdict_of};
+ghost use Rattle.due.specs.Texts.{ends_inside};
 ghost use Rattle.readings.specs.Lines.{four_lines};
 ghost use Rattle.readings.specs.ReadBack.{capture_kept, read_kept};
 
@@ -33,28 +34,35 @@ fn read_into(
     }
 }
 
-// The bytes that stand for the capture in an input of `total` bytes, of which `bytes` are the first.
-fn capture_kept(bytes: &[u8], total: u64) -> &[u8]
-    ensures { (result.now ≡ capture_kept bytes.now total) × (length result.now ≤ 61449) }
+// The bytes that stand for the capture in an input of `total` bytes, of which `bytes` are the first; refused where they end inside the texts.
+fn capture_kept(bytes: &[u8], total: u64) -> Result<&[u8], Refusal>
+    ensures refused { is_err result ≡ ends_inside bytes.now }
+    ensures kept { IfOk result (λ capture. (capture.now ≡ capture_kept bytes.now total) × (length capture.now ≤ 61449)) }
 {
+    if due::ends_inside(bytes) {
+        return Err(Refusal::CutShort);
+    }
     let rest = due::capture_in(bytes);
     let texts = bytes.len().saturating_sub(rest.len());
-    comparison::kept(rest, total.saturating_sub(texts as u64))
+    Ok(comparison::kept(rest, total.saturating_sub(texts as u64)))
 }
 
 fn read_start(input: &[u8], total: u64, page: &mut Page) -> bool
     ensures agreed { result ≡ true }
     ensures writes { Put page.old (read_kept input.now total) page.new }
 {
-    if due::ends_inside(input) {
-        listing::put_refusal(page, Refusal::CutShort.number(), None);
-        return true;
+    match capture_kept(input, total) {
+        Err(why) => {
+            listing::put_refusal(page, why.number(), None);
+            true
+        }
+        Ok(capture) => {
+            let n = capture.len();
+            let mut plain = [0; 61449];
+            let mut gates = [0; 61449];
+            read_into(input, capture, &mut plain[..n], &mut gates[..n], page)
+        }
     }
-    let capture = capture_kept(input, total);
-    let n = capture.len();
-    let mut plain = [0; 61449];
-    let mut gates = [0; 61449];
-    read_into(input, capture, &mut plain[..n], &mut gates[..n], page)
 }
 
 // An input of `total` bytes stands at the start of `bytes`, or as much of it as has room there. It answers whether the engines agree.

@@ -7,11 +7,11 @@ ghost use Rattle.text.specs.Page.{Put};
 ghost use Rattle.verdict.specs.Printed.{printed};
 
 use input::Stream;
-use std::io::{Read, Result};
+use std::io::{self, Read};
 use text::Page;
 
 // Puts what is printed of a capture on the page, and answers whether the engines agree; the capture is all that the reader has.
-fn put_printed<R: Read>(from: &mut R, page: &mut Page) -> Result<bool>
+fn put_printed<R: Read>(from: &mut R, page: &mut Page) -> io::Result<bool>
     ensures agreed { IfOk result (λ agreed. agreed ≡ true) }
     ensures writes { IfOk result (λ agreed. IfSome (R.remaining from.old)
         (λ capture. Put page.old (printed capture) page.new)) }
@@ -21,15 +21,22 @@ fn put_printed<R: Read>(from: &mut R, page: &mut Page) -> Result<bool>
     Ok(verdict::replay_by_both(&kept, total, page))
 }
 
-fn main(rt: HostRuntime) {
+// Writes what is printed, or answers what went wrong.
+fn answer(rt: &HostRuntime) -> Result<(), &'static [u8]> {
     // room for the longest listing
     let mut space = [0u8; 262144];
     let mut page = Page::new(&mut space);
     let Ok(agreed) = put_printed(&mut rt.stdin(), &mut page) else {
-        let _ = input::write_all(&rt, Stream::Error, b"cannot read the capture\n");
-        return;
+        return Err(b"cannot read the capture\n");
     };
-    if input::write_all(&rt, verdict::stream(agreed), page.text()).is_err() {
-        let _ = input::write_all(&rt, Stream::Error, b"cannot write the listing\n");
+    match input::write_all(rt, verdict::stream(agreed), page.text()) {
+        Ok(()) => Ok(()),
+        Err(_) => Err(b"cannot write the listing\n"),
+    }
+}
+
+fn main(rt: HostRuntime) {
+    if let Err(trouble) = answer(&rt) {
+        let _ = input::write_all(&rt, Stream::Error, trouble);
     }
 }

@@ -8,9 +8,14 @@ ghost use Rattle.std.specs.Io.KnownBytes.{Consumes, IsAtEnd};
 ghost use Rattle.orders.specs.Order.{order_size};
 
 use input::Stream;
-use std::io::{Read, Result};
+use std::io::{self, Read};
 
-fn fill_between<R: Read>(from: &mut R, order: &mut [u8], have: usize, want: usize) -> Result<usize>
+fn fill_between<R: Read>(
+    from: &mut R,
+    order: &mut [u8],
+    have: usize,
+    want: usize,
+) -> io::Result<usize>
     requires { (have ≤ want) × (want ≤ length order.old) }
     ensures front { take have order.new ≡ take have order.old }
     ensures fits { IfOk result (λ n. have + n ≤ want) }
@@ -22,7 +27,7 @@ fn fill_between<R: Read>(from: &mut R, order: &mut [u8], have: usize, want: usiz
 }
 
 // Reads as much as one order has, or what is left of the input.
-fn read_order<R: Read>(from: &mut R, order: &mut [u8]) -> Result<usize>
+fn read_order<R: Read>(from: &mut R, order: &mut [u8]) -> io::Result<usize>
     requires { length order.old ≡ 1032 }
     ensures bound { ReadsAtMost result order.new }
     ensures bytes { IfOk result (λ n. Consumes (R.remaining from.old) (R.remaining from.new)
@@ -43,32 +48,26 @@ fn read_order<R: Read>(from: &mut R, order: &mut [u8]) -> Result<usize>
     Ok(have)
 }
 
-// Reads the order for frame k, writes what is said to it, and answers whether to go on.
-fn answer_one<R: Read>(
+// Reads the order for frame k and writes what is said to it, or answers the line that ends the run.
+fn answer_one<'a, R: Read>(
     rt: &HostRuntime,
     from: &mut R,
     order: &mut [u8],
-    out: &mut [u8],
+    out: &'a mut [u8],
     k: u64,
-) -> bool
+) -> Result<(), &'a [u8]>
     requires { length order.old ≡ 1032 }
 {
     let Ok(n) = read_order(from, &mut *order) else {
-        let _ = input::write_all(rt, Stream::Error, b"cannot read the orders\n");
-        return false;
+        return Err(b"cannot read the orders\n");
     };
-    let length = match orders::answer(&mut *out, &order[..n], k) {
-        Ok(length) => length,
-        Err(last) => {
-            let _ = input::write_all(rt, Stream::Error, &out[..last.length]);
-            return false;
-        }
-    };
-    if input::write_all(rt, Stream::Output, &out[..length]).is_err() {
-        let _ = input::write_all(rt, Stream::Error, b"cannot write the capture\n");
-        return false;
+    match orders::answer(&mut *out, &order[..n], k) {
+        Ok(length) => match input::write_all(rt, Stream::Output, &out[..length]) {
+            Ok(()) => Ok(()),
+            Err(_) => Err(b"cannot write the capture\n"),
+        },
+        Err(last) => Err(&out[..last.length]),
     }
-    true
 }
 
 // A proved loop has to end, and nothing says that the orders do: it counts its frames, up to a number that no run reaches.
@@ -79,7 +78,8 @@ fn main(rt: HostRuntime) {
     // room for the longest frame, of 4,096 records
     let mut out = [0u8; 20480];
     for k in 0..u64::MAX {
-        if !answer_one(&rt, &mut from, &mut order, &mut out, k) {
+        if let Err(last) = answer_one(&rt, &mut from, &mut order, &mut out, k) {
+            let _ = input::write_all(&rt, Stream::Error, last);
             break;
         }
     }
