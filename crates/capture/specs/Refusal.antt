@@ -1,5 +1,5 @@
 -- What becomes of a replay: refusals 14, 7, 8, 1, 4, 2, 3 in this order, or done.
-use Rattle.std.specs.Prelude.{Bool, cond, not, List, ℕ, zero, suc, ◌%◌, eqb, ltb, length, Result, Ok, Err}
+use Rattle.std.specs.Prelude.{◌≡◌, Bool, cond, not, List, ℕ, zero, suc, ◌%◌, eqb, ltb, length, Result, Ok, Err}
 use Rattle.states.specs.declared.state.State.{State}
 use Rattle.states.specs.State.{◌when◌otherwise◌, ◌or_else◌, state_refusal}
 use Rattle.records.specs.Record.{byte_at, spare_set}
@@ -44,3 +44,7 @@ judged s capture room =
 abbrev pub judged_as : {A : Type 0} → Result A Refusal → Judged
 judged_as (Ok a) = Done
 judged_as (Err r) = Refused (number_of r) (place_of r)
+
+-- They settle it: two answers that are told alike are the same.
+abbrev pub JudgedApart : Type 0
+JudgedApart = (a b : Result (Unit {0}) Refusal) → judged_as a ≡ judged_as b → a ≡ b

@@ -1,5 +1,5 @@
 -- The replay of a capture: the run of its records, from any machine handed in.
-use Rattle.std.specs.Prelude.{List, ◌++◌, ℕ, ◌*◌, length, drop, Result, Ok, Err}
+use Rattle.std.specs.Prelude.{◌≡◌, List, ◌++◌, ℕ, ◌*◌, length, drop, Result, Ok, Err}
 use Rattle.fabric.specs.Cycle.{Machine}
 use Rattle.fabric.specs.Run.{run_of}
 use Rattle.records.specs.Answers.{answers_of}
@@ -44,3 +44,7 @@ replay_writes m capture buffer = written_as (judged m.state capture (length buff
 abbrev pub replayed : Result Machine Handed → Replayed
 replayed (Ok m) = handed_back 0 0 m
 replayed (Err r) = handed_back (number_of r.why) (place_of r.why) r.machine
+
+-- They settle it: two answers that are told alike are the same.
+abbrev pub ReplayedApart : Type 0
+ReplayedApart = (a b : Result Machine Handed) → replayed a ≡ replayed b → a ≡ b

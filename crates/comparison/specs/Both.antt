@@ -1,7 +1,7 @@
 -- A capture of any size through both engines from reset.
-use Rattle.std.specs.Prelude.{Bool, ◌||◌, ◌≡◌, cond, List, Option, Some, None, ℕ, ◌+◌, ◌%◌, eqb, ltb, length, take, replicate, Result, Ok, Err}
+use Rattle.std.specs.Prelude.{◌≡◌, cond, List, Option, Some, None, ℕ, ◌+◌, ◌%◌, ltb, length, take, replicate, Result, Ok, Err}
 use Rattle.states.specs.declared.refusal.Refusal.{Refusal}
-use Rattle.states.specs.Refusal.{number_in, place_of}
+use Rattle.states.specs.Refusal.{number_in, place_of, indexed}
 use Rattle.fabric.specs.Run.{reset_machine}
 use Rattle.capture.specs.Replay.{replay_of, replay_writes}
 use Rattle.comparison.specs.declared.both.Both.{Both as Compared}
@@ -32,10 +32,6 @@ place_in (Err r) = place_of r
 
 abbrev pub told : Compared → Both
 told b = record { number = number_in b.outcome; index = place_in b.outcome; difference = b.difference }
-
--- the numbers that give an index: a bad record, a wrong gate word, a net read too early
-abbrev pub indexed : ℕ → Bool
-indexed number = eqb number 3 || eqb number 11 || eqb number 12
 
 -- the index that is printed with a number
 abbrev pub index_given : ℕ → ℕ → Option ℕ

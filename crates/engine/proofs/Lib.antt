@@ -2,3 +2,4 @@ pub mod Headers
 pub mod Control
 pub mod Choices
 pub mod Cycles
+pub mod Told

@@ -1,5 +1,5 @@
 -- A cycle of the gate engine. It answers what the plain cycle does, and reports nothing.
-use Rattle.std.specs.Prelude.{Bool, false, List, [], ◌∷◌, ℕ, Result, Ok, Err}
+use Rattle.std.specs.Prelude.{◌≡◌, Bool, false, List, [], ◌∷◌, ℕ, Result, Ok, Err}
 use Rattle.routing.specs.Four.{four}
 use Rattle.states.specs.declared.state.Refused.{Refused}
 use Rattle.states.specs.Refusal.{number_of}
@@ -7,7 +7,7 @@ use Rattle.fabric.specs.declared.cycle.Inputs.{Inputs}
 use Rattle.fabric.specs.declared.cycle.Moved.{Moved}
 use Rattle.fabric.specs.declared.cycle.Cycled.{Cycled}
 use Rattle.states.specs.State.{first_row, second_row, switch_row, zero_row}
-use Rattle.fabric.specs.Cycle.{Machine, machine, shown, CycleAnswer}
+use Rattle.fabric.specs.Cycle.{Machine, machine, shown, CycleAnswer, cycle_of}
 use Rattle.wiring.specs.Wiring.{gate_state, gate_acks, gate_switch}
 
 -- over the meaning of the gate words: the state, the acknowledgements and the switch bytes are nets; the other bytes move on
@@ -38,3 +38,8 @@ without_report c = record { number = c.number; acks = c.acks; shown = c.shown; m
 abbrev pub gate_answer : Result Moved Refused → GateAnswer
 gate_answer (Ok c) = record { number = 0; acks = c.acks; shown = c.shown; machine = c.machine }
 gate_answer (Err r) = record { number = number_of r.why; acks = four (λ i. false); shown = zero_row; machine = r.machine }
+
+-- What is told settles what was answered: two results that tell one cycle are the same.
+abbrev pub GateCycleSettles : Type 0
+GateCycleSettles = (m : Machine) (i : Inputs) (a b : Result Moved Refused) → gate_answer a ≡ without_report (cycle_of m i)
+    → gate_answer b ≡ without_report (cycle_of m i) → a ≡ b

@@ -70,12 +70,15 @@ fn step(s: State, rows: [[u8; 4]; 4], i: Inputs) -> Moved
     }
 }
 
-// The gates as an engine.
+// The gates as an engine. Beside the law of every engine its cycle is promised over the gate words, so that one that evaluates none is refused.
 #[derive(Clone, Copy)]
 pub struct Gates;
 
 impl Engine for Gates {
-    fn step(&self, s: State, rows: [[u8; 4]; 4], i: Inputs) -> Moved {
+    fn step(&self, s: State, rows: [[u8; 4]; 4], i: Inputs) -> Moved
+        ensures words { result ≡ gate_step_of (machine s rows) i }
+        ensures rules { Held s → result ≡ moved_of (machine s rows) i }
+    {
         step(s, rows, i)
     }
 }

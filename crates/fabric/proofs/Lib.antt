@@ -1,3 +1,4 @@
 pub mod Steps
 pub mod Cycles
 pub mod Runs
+pub mod Told

@@ -1,5 +1,5 @@
 -- Rules 1, 2, 5, 6 and 7, and a cycle.
-use Rattle.std.specs.Prelude.{Bool, true, false, cond, not, ◌&&◌, List, [], ◌∷◌, ℕ, eqb, get_or, Result, Ok, Err}
+use Rattle.std.specs.Prelude.{◌≡◌, Bool, true, false, cond, not, ◌&&◌, List, [], ◌∷◌, ℕ, eqb, get_or, Result, Ok, Err}
 use Rattle.routing.specs.declared.port.Input.{Input}
 use Rattle.states.specs.declared.state.State.{State}
 use Rattle.routing.specs.declared.route.Report.{Report}
@@ -97,3 +97,7 @@ cycle_of m i = cond (eqb (state_refusal m.state) 0) (done_cycle (step_of m i)) (
 abbrev pub cycle_answer : Result Cycled Refused → CycleAnswer
 cycle_answer (Ok c) = done_cycle c
 cycle_answer (Err r) = refused_cycle (number_of r.why) r.machine
+
+-- What is told settles what was answered: two results that tell one cycle are the same.
+abbrev pub CycleSettles : Type 0
+CycleSettles = (m : Machine) (i : Inputs) (a b : Result Cycled Refused) → cycle_answer a ≡ cycle_of m i → cycle_answer b ≡ cycle_of m i → a ≡ b

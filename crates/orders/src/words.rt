@@ -52,9 +52,8 @@ pub fn answer(out: &mut [u8], order: &[u8], k: u64) -> Result<usize, LastLine>
         put_cut_short(&mut page, k);
         return Err(LastLine { length: page.place });
     }
-    let plan = order::plan_in(order);
-    match frames::write_frame(&mut *out, &plan) {
-        Ok(()) => Ok(plan.size()),
+    match order::write_order(&mut *out, order) {
+        Ok(()) => Ok(order::plan_in(order).size()),
         Err(refusal) => {
             let mut page = Page::new(out);
             put_refused(&mut page, refusal, k);

@@ -1,7 +1,7 @@
 // Answers the requests on standard input, a line for each, until the input ends.
 #![tactic(auto)]
 
-ghost use Rattle.std.specs.Prelude.{◌≡◌, ◌++◌, length, take, IfOk};
+ghost use Rattle.std.specs.Prelude.{◌≡◌, ◌++◌, ◌≤◌, length, take, IfOk};
 ghost use Rattle.std.specs.Io.KnownBytes.{Consumes};
 ghost use Rattle.io.specs.Counts.{IsPrefixLen};
 
@@ -27,12 +27,15 @@ fn read_request<R: Read>(
     Ok((h, p))
 }
 
-// Reads a request, writes its line, and answers whether to go on, or what went wrong.
+// Reads a request, writes its line, and answers whether to go on, or what went wrong. `out` has room for the longest line: 65,536 bytes in hex, and what
+// stands before them.
 fn answer_one<R: Read>(
     rt: &HostRuntime,
     from: &mut R,
     out: &mut [u8],
-) -> Result<bool, &'static [u8]> {
+) -> Result<bool, &'static [u8]>
+    requires { 131328 ≤ length out.old }
+{
     let mut header = [0u8; 5];
     let mut payload = [0u8; 65536];
     let Ok((h, p)) = read_request(from, &mut header, &mut payload) else {
@@ -49,7 +52,6 @@ fn answer_one<R: Read>(
 // A proved loop has to end, and nothing says that the requests do: it takes its turns, up to a number that no run uses up.
 fn main(rt: HostRuntime) {
     let mut from = rt.stdin();
-    // room for the longest line: 65,536 bytes in hex, and what stands before them
     let mut space = [0u8; 131328];
     for _ in 0..u64::MAX {
         match answer_one(&rt, &mut from, &mut space) {

@@ -2,7 +2,7 @@
 // the input; where the engines differ, nothing but where they do, on standard error.
 #![tactic(auto)]
 
-ghost use Rattle.std.specs.Prelude.{true, ◌≡◌, length, take, IfOk, IfSome};
+ghost use Rattle.std.specs.Prelude.{true, ◌≡◌, ◌≤◌, length, take, IfOk, IfSome};
 ghost use Rattle.text.specs.Page.{Put};
 ghost use Rattle.readings.specs.ReadBack.{read_kept};
 
@@ -11,7 +11,9 @@ use std::io::{self, Read};
 use text::Page;
 
 // Puts what is printed of texts and a capture on the page; they are all that the reader has. Of an input of bytes it is what is printed of the whole.
+// The page is empty and has room for the longest lines: four pieces of 12,288 bytes in hex, and what stands around them.
 fn put_printed<R: Read>(from: &mut R, page: &mut Page) -> io::Result<bool>
+    requires { (page.old.place ≡ 0) × (131072 ≤ length page.old.bytes.now) }
     ensures agreed { IfOk result (λ agreed. agreed ≡ true) }
     ensures writes { IfOk result (λ agreed. IfSome (R.remaining from.old)
         (λ whole. Put page.old (read_kept (take 65536 whole) (length whole)) page.new)) }
@@ -23,7 +25,6 @@ fn put_printed<R: Read>(from: &mut R, page: &mut Page) -> io::Result<bool>
 
 // Writes what is printed, or answers what went wrong.
 fn answer(rt: &HostRuntime) -> Result<(), &'static [u8]> {
-    // room for the longest lines: four pieces of 12,288 bytes in hex, and what stands around them
     let mut space = [0u8; 131072];
     let mut page = Page::new(&mut space);
     let Ok(agreed) = put_printed(&mut rt.stdin(), &mut page) else {

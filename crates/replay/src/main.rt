@@ -2,7 +2,7 @@
 // do, on standard error.
 #![tactic(auto)]
 
-ghost use Rattle.std.specs.Prelude.{true, ◌≡◌, IfOk, IfSome};
+ghost use Rattle.std.specs.Prelude.{true, ◌≡◌, ◌≤◌, length, take, IfOk, IfSome};
 ghost use Rattle.text.specs.Page.{Put};
 ghost use Rattle.verdict.specs.Printed.{printed};
 
@@ -10,11 +10,15 @@ use input::Stream;
 use std::io::{self, Read};
 use text::Page;
 
-// Puts what is printed of a capture on the page, and answers whether the engines agree; the capture is all that the reader has.
+// Puts what is printed of a capture on the page, and answers whether the engines agree; the capture is all that the reader has. On an empty page with
+// room for the longest listing all of it stands there then, and nothing else.
 fn put_printed<R: Read>(from: &mut R, page: &mut Page) -> io::Result<bool>
+    requires { (page.old.place ≡ 0) × (262144 ≤ length page.old.bytes.now) }
     ensures agreed { IfOk result (λ agreed. agreed ≡ true) }
     ensures writes { IfOk result (λ agreed. IfSome (R.remaining from.old)
         (λ capture. Put page.old (printed capture) page.new)) }
+    ensures whole { IfOk result (λ agreed. IfSome (R.remaining from.old)
+        (λ capture. take page.new.place page.new.bytes.now ≡ printed capture)) }
 {
     let mut kept = [0u8; 65536];
     let total = input::take_in(from, &mut kept)?;
@@ -23,7 +27,6 @@ fn put_printed<R: Read>(from: &mut R, page: &mut Page) -> io::Result<bool>
 
 // Writes what is printed, or answers what went wrong.
 fn answer(rt: &HostRuntime) -> Result<(), &'static [u8]> {
-    // room for the longest listing
     let mut space = [0u8; 262144];
     let mut page = Page::new(&mut space);
     let Ok(agreed) = put_printed(&mut rt.stdin(), &mut page) else {

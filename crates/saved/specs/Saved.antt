@@ -1,11 +1,12 @@
 -- The saved state, 18 bytes, most significant first: a 16-bit word, high byte first, then the four rows.
-use Rattle.std.specs.Prelude.{cond, not, List, [], ◌∷◌, ◌++◌, ℕ, ◌+◌, ◌*◌, ◌/◌, ◌%◌, ◌^◌, eqb, ltb, length, drop, Result, Ok, Err}
+use Rattle.std.specs.Prelude.{◌≡◌, cond, not, List, [], ◌∷◌, ◌++◌, ℕ, ◌+◌, ◌*◌, ◌/◌, ◌%◌, ◌^◌, eqb, ltb, length, drop, Result, Ok, Err}
 use Rattle.states.specs.declared.state.State.{State}
 use Rattle.states.specs.declared.state.Refused.{Refused}
 use Rattle.routing.specs.Four.{four, bit, bit_at}
 use Rattle.routing.specs.Port.{input}
 use Rattle.states.specs.State.{shut_at, holder_at, first_row, second_row, switch_row, head_row, ◌when◌otherwise◌, ◌or_else◌, state_refusal}
-use Rattle.states.specs.Refusal.{number_of}
+use Rattle.states.specs.declared.refusal.Refusal.{Refusal}
+use Rattle.states.specs.Refusal.{number_of, number_in}
 use Rattle.fabric.specs.Cycle.{Machine, machine}
 use Rattle.fabric.specs.Run.{reset_machine}
 use Rattle.records.specs.Record.{byte_at}
@@ -79,3 +80,10 @@ take_up_of saved = cond (eqb (take_up_refusal saved) 0) (taken_up saved) (not_ta
 abbrev pub taken_as : Result Machine Refused → TakenUp
 taken_as (Ok m) = record { number = 0; machine = m }
 taken_as (Err r) = record { number = number_of r.why; machine = r.machine }
+
+-- What is told settles what was answered, of saving and of taking up: two results that tell the same are the same.
+abbrev pub SaveSettles : Type 0
+SaveSettles = (s : State) (room : ℕ) (a b : Result (Unit {0}) Refusal) → number_in a ≡ save_refusal s room → number_in b ≡ save_refusal s room → a ≡ b
+
+abbrev pub TakeUpSettles : Type 0
+TakeUpSettles = (saved : List ℕ) (a b : Result Machine Refused) → taken_as a ≡ take_up_of saved → taken_as b ≡ take_up_of saved → a ≡ b

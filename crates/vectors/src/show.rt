@@ -1,4 +1,7 @@
 // A line for each try: its title, and what a proved call made of it.
+ghost use Rattle.std.specs.Prelude.{◌++◌};
+ghost use Rattle.text.specs.Page.{Put};
+
 use capture::Rules;
 use engine::Gates;
 use input::Stream;
@@ -15,6 +18,14 @@ pub(crate) fn say(rt: &HostRuntime, title: &[u8], how: &[u8], text: &[u8]) {
     }
 }
 
+fn join(page: &mut Page, a: &[u8], b: &[u8], c: &[u8])
+    ensures { Put page.old (a.now ++ b.now ++ c.now) page.new }
+{
+    page.put_text(a);
+    page.put_text(b);
+    page.put_text(c);
+}
+
 // A call that is asked by three parts, one behind the other.
 fn ask<F: FnOnce(&mut Page, &[u8])>(
     rt: &HostRuntime,
@@ -29,9 +40,7 @@ fn ask<F: FnOnce(&mut Page, &[u8])>(
 {
     let mut space = [0u8; 512];
     let mut asked = Page::new(&mut space);
-    asked.put_text(a);
-    asked.put_text(b);
-    asked.put_text(c);
+    join(&mut asked, a, b, c);
     let mut room = [0u8; 512];
     let mut page = Page::new(&mut room);
     call(&mut page, asked.text());

@@ -48,7 +48,7 @@ fn read_order<R: Read>(from: &mut R, order: &mut [u8]) -> io::Result<usize>
     Ok(have)
 }
 
-// Reads the order for frame k and writes what is said to it, or answers the line that ends the run.
+// Reads the order for frame k and writes what is said to it, or answers the line that ends the run. `out` has room for the longest frame, of 4,096 records.
 fn answer_one<'a, R: Read>(
     rt: &HostRuntime,
     from: &mut R,
@@ -56,7 +56,7 @@ fn answer_one<'a, R: Read>(
     out: &'a mut [u8],
     k: u64,
 ) -> Result<(), &'a [u8]>
-    requires { length order.old ≡ 1032 }
+    requires { (length order.old ≡ 1032) × (20480 ≤ length out.old) }
 {
     let Ok(n) = read_order(from, &mut *order) else {
         return Err(b"cannot read the orders\n");
@@ -75,7 +75,6 @@ fn main(rt: HostRuntime) {
     let mut from = rt.stdin();
     // room for the longest order: 4 bytes, and for each input a length, a header and 255 bytes of body
     let mut order = [0u8; 1032];
-    // room for the longest frame, of 4,096 records
     let mut out = [0u8; 20480];
     for k in 0..u64::MAX {
         if let Err(last) = answer_one(&rt, &mut from, &mut order, &mut out, k) {

@@ -2,12 +2,13 @@ use Rattle.std.proofs.Common.{◌≡◌, ◌≤◌, ℕ, Bool, true, false, List
 use lib.Seq.{take-take}
 use borrow.Author.Tests.{ltb-true, ltb-false}
 use Rattle.text.specs.declared.page.Page.{Page}
-use Rattle.text.specs.Page.{Put}
+use Rattle.text.specs.Page.{page, Wrote, Put}
 use Rattle.text.proofs.Pages.{spelt}
 use Rattle.comparison.specs.Both.{kept_length, kept}
 use Rattle.comparison.proofs.Inputs.{kept_long, kept_whole}
 use Rattle.verdict.specs.Printed.{printed}
 use Rattle.verdict.proofs.Whole.{whole_input}
+use Rattle.verdict.proofs.Fits.{all_printed}
 use Rattle.replay.proofs.put_printed.Goals as goal
 
 -- no more stands for a capture than it has
@@ -33,3 +34,14 @@ of_reader (Some whole) buffer n room long start w = spelt w (printed_whole buffe
 pub returns-clause-writes : goal.returns-clause-writes
 returns-clause-writes g c =
     let taken = c.in_ok-total.ensures in of_reader _ c.take_in.new.buf _ (search rules) taken.total taken.kept c.replay_by_both.ensures.writes
+
+-- what was put onto an empty page that has room for it stands there whole
+stands_whole : (known : Option (List ℕ)) {before after : Page} → before.place ≡ 0 → 262144 ≤ length before.bytes.now
+    → IfSome known (λ capture. Put before (printed capture) after) → IfSome known (λ capture. take after.place after.bytes.now ≡ printed capture)
+stands_whole None empty room w = tt
+stands_whole (Some capture) {before = before} {after = after} empty room w =
+    let wrote : Wrote (page before.bytes.now 0) (printed capture) (page after.bytes.now after.place) = rw empty at w.wrote in
+    (all_printed capture before.bytes.now after.bytes.now after.place room wrote).1
+
+pub returns-clause-whole : goal.returns-clause-whole
+returns-clause-whole g c = stands_whole _ c.requires.0 c.requires.1 (returns-clause-writes g c)

@@ -25,18 +25,14 @@ pub returns-in-Ok : goal.returns-in-Ok
 returns-in-Ok c =
     let a = c.args in
     let some = eqb-false _ _ (sym c.is_empty.ensures ∙ c.if-is_empty.false) in
-    let same = c.plan_in-plan.ensures in
     let w = c.in-Ok.ensures in
-    let number = w.number ∙ ap (λ (p : Plan). write_refusal p (length a.out.now)) same in
-    let e = done a.order.now a.k a.out.now some c.order_size.ensures.0 c.if-order-order_size.false (number, w.writes ∙ ap (λ (p : Plan). frame_writes p a.out.now) same) refl (c.size.ensures ∙ ap (λ (p : Plan). 5 * te p) same) in
+    let e = done a.order.now a.k a.out.now some c.order_size.ensures.0 c.if-order-order_size.false (w.number, w.writes) refl (c.size.ensures ∙ ap (λ (p : Plan). 5 * te p) c.plan_in.ensures) in
     record { written = e.0; text = e.1 }
 
 pub returns-in-Err : goal.returns-in-Err
 returns-in-Err c =
     let a = c.args in
     let some = eqb-false _ _ (sym c.is_empty.ensures ∙ c.if-is_empty.false) in
-    let same = c.plan_in-plan.ensures in
     let w = c.in-Err.ensures in
-    let number = w.number ∙ ap (λ (p : Plan). write_refusal p (length a.out.now)) same in
-    let e = refused a.order.now a.k a.out.now some c.order_size.ensures.0 c.if-order-order_size.false (number, w.writes ∙ ap (λ (p : Plan). frame_writes p a.out.now) same) (some_number c.in-Err.refusal) (from_start c.new-page-in-Err.ensures.blank c.put_refused.ensures (search rules)) in
+    let e = refused a.order.now a.k a.out.now some c.order_size.ensures.0 c.if-order-order_size.false (w.number, w.writes) (some_number c.in-Err.refusal) (from_start c.new-page-in-Err.ensures.blank c.put_refused.ensures (search rules)) in
     record { written = e.0; text = e.1 }
