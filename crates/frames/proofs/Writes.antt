@@ -1,16 +1,18 @@
 -- The records of a frame, one after the other, and the buffer that they stand in. Assumes nothing.
 use mathlib.Core.Path.{◌≡◌, refl, sym, ap, ◌∙◌}
-use mathlib.Core.List.{List, ◌++◌}
+use mathlib.Core.List.{List, [], ◌∷◌, ◌++◌}
 use Prim.Native.Nat.{ℕ, ◌+◌, ◌-◌, ◌*◌, ◌<◌, ◌≤◌, suc, zero}
 use native.Mathlib.Numerals.{add-one}
 use native.Mathlib.Omega.{arith}
+use lib.Dec.{eqb}
 use lib.ListN.{length, length-append}
 use borrow.Author.Tests.{lt-ltb, le-ltb}
+use Rattle.routing.proofs.Equal.{row_of}
 use Rattle.text.specs.declared.page.Page.{Page as Sheet}
 use Rattle.text.specs.Page.{Put}
 use Rattle.text.proofs.Pages.{◌then◌, spelt, nothing}
 use Rattle.records.specs.Record.{byte_at, record_of}
-use Rattle.plans.specs.Plan.{Plan, sent_of, inputs_of}
+use Rattle.plans.specs.Plan.{Plan, sent_of, sends, inputs_of}
 use Rattle.frames.specs.Writing.{records_of}
 
 -- before the header nothing is sent, from it on the cell
@@ -21,6 +23,11 @@ pub sending : (first : ℕ) (cell : List ℕ) (k : ℕ) → first ≤ k → byte
 sending first cell k h = rw (le-ltb _ _ h)
 
 module _ (p : Plan) where
+  -- a record made of what the four inputs send
+  pub made : (k : ℕ) {a b c d : ℕ} → a ≡ sends p k 0 → b ≡ sends p k 1 → c ≡ sends p k 2 → d ≡ sends p k 3
+      → record_of (record { frame = eqb k 0; bytes = a ∷ b ∷ c ∷ d ∷ []; acks = p.acks }) ≡ record_of (inputs_of p k)
+  made k ea eb ec ed = ap (λ (l : List ℕ). record_of (record { frame = eqb k 0; bytes = l; acks = p.acks })) (row_of ea eb ec ed)
+
   pub none_yet : (q : Sheet) → Put q (records_of p 0) q
   unfolding records_of
   none_yet q = nothing q

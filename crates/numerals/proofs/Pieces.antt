@@ -3,14 +3,25 @@ use mathlib.Core.Bool.{Bool, true, false}
 use mathlib.Core.Path.{◌≡◌, refl, sym, ap, ◌∙◌}
 use mathlib.Core.List.{List}
 use Rattle.std.proofs.Common.{Some}
-use Prim.Native.Nat.{ℕ, ◌<◌, ◌≤◌}
+use Prim.Native.Nat.{ℕ, ◌+◌, ◌<◌, ◌≤◌}
 use native.Mathlib.Omega.{arith}
+use native.Mathlib.Numerals.{add-one}
 use lib.Dec.{ltb}
-use lib.ListN.{length, take, drop_of_length-le}
+use lib.ListN.{length, get_or, take, drop_of_length-le}
 use borrow.Author.Tests.{lt-ltb, le-ltb, ltb-true, ltb-false}
 use Rattle.text.specs.Differ.{first_difference}
-use Rattle.numerals.specs.Piece.{holding}
+use Rattle.numerals.specs.Numeral.{numeral, run_begins, run_ends}
+use Rattle.numerals.specs.Piece.{holding, part, around}
 use Rattle.numerals.proofs.Places.{found}
+
+module _ (text : List ℕ) (k : ℕ) where
+  pub around_run : numeral (get_or text k 0) ≡ true → {from to : ℕ} → from ≡ run_begins text k → to ≡ run_ends text k → part text from to ≡ around text k
+  unfolding around
+  around_run e ef et = rw (e, ef, et)
+
+  pub around_byte : numeral (get_or text k 0) ≡ false → part text k (k + 1) ≡ around text k
+  unfolding around
+  around_byte e = rw (e, add-one k)
 
 module _ (station head : List ℕ) (k : ℕ) where
   pub in_station : k < length station → station ≡ holding station head k

@@ -1,10 +1,10 @@
--- What a frame has that is not refused. Assumes nothing.
+-- The limits, the order of the refusals, and what a frame has that is not refused. Assumes nothing.
 use mathlib.Core.Bool.{Bool, true, false}
 use mathlib.Core.Path.{◌≡◌, refl}
 use Prim.Native.Nat.{ℕ, ◌+◌, ◌*◌, ◌<◌, ◌≤◌}
 use native.Mathlib.Omega.{arith}
 use lib.Dec.{ltb}
-use borrow.Author.Tests.{le-ltb, ltb-false}
+use borrow.Author.Tests.{lt-ltb, le-ltb, ltb-false}
 use Rattle.states.specs.State.{◌when◌otherwise◌}
 use Rattle.routing.proofs.Fours.{or_left, or_right, no_at}
 use Rattle.plans.specs.Plan.{Plan, cell_of, th, te}
@@ -27,6 +27,35 @@ within gap cycles e =
       cycles_some = ltb-false _ _ (or_left (ltb cycles (gap + 2)) (ltb 4096 cycles) c);
       cycles_few = ltb-false _ _ (or_right (ltb cycles (gap + 2)) (ltb 4096 cycles) c);
     }
+
+module _ (p : Plan) (room : ℕ) where
+  pub number_20 : off_limits p.gap p.cycles ≡ true → 20 ≡ write_refusal p room
+  unfolding write_refusal
+  number_20 h = rw h
+
+  module _ (no-20 : off_limits p.gap p.cycles ≡ false) where
+    pub number_21 : in_some header_inactive p.cells ≡ true → 21 ≡ write_refusal p room
+    unfolding write_refusal
+    number_21 h = rw (no-20, h)
+
+    module _ (no-21 : in_some header_inactive p.cells ≡ false) where
+      pub number_22 : in_some body_wrong p.cells ≡ true → 22 ≡ write_refusal p room
+      unfolding write_refusal
+      number_22 h = rw (no-20, no-21, h)
+
+      module _ (no-22 : in_some body_wrong p.cells ≡ false) where
+        pub number_23 : in_some (too_late (th p) (te p)) p.cells ≡ true → 23 ≡ write_refusal p room
+        unfolding write_refusal
+        number_23 h = rw (no-20, no-21, no-22, h)
+
+        module _ (no-23 : in_some (too_late (th p) (te p)) p.cells ≡ false) where
+          pub number_24 : room < 5 * p.cycles → 24 ≡ write_refusal p room
+          unfolding write_refusal
+          number_24 h = rw (no-20, no-21, no-22, no-23, lt-ltb _ _ h)
+
+          pub no_number : 5 * p.cycles ≤ room → 0 ≡ write_refusal p room
+          unfolding write_refusal
+          no_number h = rw (no-20, no-21, no-22, no-23, le-ltb _ _ h)
 
 -- the tests that a frame passes which is not refused
 record Passes (p : Plan) (room : ℕ) : Type 0 where
