@@ -8,5 +8,5 @@
 mod standard;
 mod streams;
 
-pub use standard::{fill, take_in};
+pub use standard::{CutOff, fill, take_in};
 pub use streams::{Stream, write_all};

@@ -1,11 +1,23 @@
 // Reading until a buffer is full or the input ends, and counting what comes after it.
-ghost use Rattle.std.specs.Prelude.{◌≡◌, ◌+◌, ◌^◌, ◌<◌, ◌≤◌, ℕ, List, length, take, drop, IfOk, IfSome, OnOk, OnErr};
-ghost use Rattle.std.specs.Io.{ReadsAtMost};
+ghost use Rattle.std.specs.Prelude.{◌≡◌, ◌+◌, ◌^◌, ◌<◌, ◌≤◌, ℕ, List, length, take, drop, IfOk, IfErr, IfSome, OnOk, OnErr};
 ghost use Rattle.std.specs.Io.KnownBytes.{Consumes, Keeps, IsAtEnd};
 
-use std::io::{Error, ErrorKind, Read, Result};
+use std::io::{self, Error, ErrorKind, Read};
 
-fn read_from<R: Read>(from: &mut R, buf: &mut [u8], at: usize) -> Result<usize>
+// A read that failed, and how many bytes had been read before it.
+#[derive(Debug, Drop)]
+pub struct CutOff {
+    pub length: u64,
+    pub why: Error,
+}
+
+impl From<CutOff> for Error {
+    fn from(cut: CutOff) -> Error {
+        cut.why
+    }
+}
+
+fn read_from<R: Read>(from: &mut R, buf: &mut [u8], at: usize) -> io::Result<usize>
     requires { at < length buf.old }
     ensures front { take at buf.new ≡ take at buf.old }
     ensures fits { IfOk result (λ n. at + n ≤ length buf.new) }
@@ -18,17 +30,21 @@ fn read_from<R: Read>(from: &mut R, buf: &mut [u8], at: usize) -> Result<usize>
 }
 
 // Reads until the buffer is full or the input ends, and answers how many bytes stand at its start. What was read before a failure stands there too.
-pub fn fill<R: Read>(from: &mut R, buf: &mut [u8]) -> Result<usize>
-    ensures bound { ReadsAtMost result buf.new }
+pub fn fill<R: Read>(from: &mut R, buf: &mut [u8]) -> Result<usize, CutOff>
+    ensures bound { IfOk result (λ n. n ≤ length buf.new) }
     ensures bytes { IfOk result (λ n. Consumes (R.remaining from.old) (R.remaining from.new)
         (take n buf.new)) }
     ensures end { IfOk result (λ n. n < length buf.new → IsAtEnd (R.remaining from.new)) }
-    ensures err { OnErr result ((n : ℕ) × (n ≤ length buf.new) × Consumes (R.remaining from.old) (R.remaining from.new) (take n buf.new)) }
+    ensures err { IfErr result (λ cut. (cut.length ≤ length buf.new)
+        × Consumes (R.remaining from.old) (R.remaining from.new) (take cut.length buf.new)) }
 {
     // not a slice that shrinks: the loop's facts would have no name for the bytes that it has passed, so `bytes` could not be kept
     let mut at: usize = 0;
     while at < buf.len() {
-        let n = read_from(&mut *from, &mut *buf, at)?;
+        let n = read_from(&mut *from, &mut *buf, at).map_err(|why| CutOff {
+            length: at as u64,
+            why,
+        })?;
         if n == 0 {
             break;
         }
@@ -40,37 +56,45 @@ pub fn fill<R: Read>(from: &mut R, buf: &mut [u8]) -> Result<usize>
 // A proved loop has to end, and nothing says that an input does: it takes its turns, up to a number that no run uses up.
 const TURNS: u64 = 1 << 47;
 
-fn count_rest<R: Read>(from: &mut R) -> Result<u64>
+fn count_rest<R: Read>(from: &mut R) -> Result<u64, CutOff>
     ensures bound { IfOk result (λ n. n ≤ 2 ^ 63) }
     ensures bytes { IfOk result (λ n. (rest : List ℕ) × (length rest ≡ n)
         × Consumes (R.remaining from.old) (R.remaining from.new) rest) }
     ensures end { OnOk result (IsAtEnd (R.remaining from.new)) }
+    ensures err { IfErr result (λ cut. cut.length ≤ 2 ^ 63) }
 {
     let mut space = [0u8; 65536];
     let mut total: u64 = 0;
     // not `io::copy` into a sink: it tries an interrupted read again, and here that is a failure
     for _ in 0..TURNS {
-        let n = from.read(&mut space)?;
+        let n = from.read(&mut space).map_err(|why| CutOff { length: total, why })?;
         if n == 0 {
             return Ok(total);
         }
         total += n as u64;
     }
-    Err(Error::new(ErrorKind::TimedOut, "the input does not end"))
+    Err(CutOff {
+        length: total,
+        why: Error::new(ErrorKind::TimedOut, "the input does not end"),
+    })
 }
 
 // Keeps the start of the input in the buffer and counts all of it.
-pub fn take_in<R: Read>(from: &mut R, buf: &mut [u8]) -> Result<u64>
+pub fn take_in<R: Read>(from: &mut R, buf: &mut [u8]) -> Result<u64, CutOff>
     ensures bound { IfOk result (λ n. n ≤ length buf.old + 2 ^ 63) }
     ensures total { IfOk result (λ n. IfSome (R.remaining from.old) (λ all. n ≡ length all)) }
     ensures kept { IfOk result (λ n. IfSome (R.remaining from.old)
         (λ all. take n buf.new ≡ take (length buf.new) all)) }
     ensures end { OnOk result (IsAtEnd (R.remaining from.new)) }
+    ensures err { IfErr result (λ cut. cut.length ≤ length buf.old + 2 ^ 63) }
 {
     let kept = fill(&mut *from, &mut *buf)?;
     if kept < buf.len() {
         return Ok(kept as u64);
     }
-    let rest = count_rest(from)?;
+    let rest = count_rest(from).map_err(|cut| CutOff {
+        length: kept as u64 + cut.length,
+        why: cut.why,
+    })?;
     Ok(kept as u64 + rest)
 }
