@@ -1,5 +1,5 @@
 -- What a word's count covers, as the code asks for it. Assumes nothing.
-use mathlib.Core.Bool.{Bool, false, ◌&&◌, ◌||◌}
+use mathlib.Core.Bool.{Bool, true, false, ◌&&◌, ◌||◌}
 use mathlib.Core.Path.{◌≡◌, refl, sym, ap, ◌∙◌}
 use mathlib.Core.Logic.{◌≢◌}
 use mathlib.Core.List.{List, [], ◌∷◌, map}
@@ -7,7 +7,7 @@ use Prim.Native.Nat.{ℕ, zero, suc, ◌≤◌, ◌<◌}
 use native.Mathlib.Omega.{arith}
 use lib.Dec.{eqb}
 use lib.ListN.{take, drop, get_or-eq_default}
-use Rattle.std.specs.List.{list_any, list_all}
+use Rattle.std.specs.List.{list_any, fold}
 use Rattle.words.specs.Word.{two_to_four, every, any, values, made, right_count}
 
 -- each kind's right count
@@ -44,7 +44,7 @@ unfolding right_count
 no_count k n h =
     let any = two_to_four n in sym (get_or-eq_default (eqb n 1 ∷ eqb n 1 ∷ any ∷ any ∷ any ∷ any ∷ eqb n 2 ∷ eqb n 2 ∷ eqb n 4 ∷ []) false h)
 
--- the library's words for one of some and all of some, as this crate's
+-- the library's word for one of some, as this crate's
 pub any_taken : (test : ℕ → Bool) (n : ℕ) (xs : List ℕ) → list_any test (take n xs) ≡ any (take n (map test xs))
 any_taken test zero xs = refl
 any_taken test (suc n) [] = refl
@@ -59,18 +59,23 @@ any_dropped test zero xs = any_of test xs
 any_dropped test (suc n) [] = refl
 any_dropped test (suc n) (x ∷ xs) = any_dropped test n xs
 
-pub any_yes : (bs : List Bool) → list_any (λ b. b) bs ≡ any bs
-any_yes [] = refl
-any_yes (b ∷ bs) = ap (λ c. b || c) (any_yes bs)
+-- folds over all of some answers, which stop early at none of them
+pub every_folded : (all : Bool) (bs : List Bool) → fold ◌&&◌ all bs ≡ all && every bs
+every_folded true [] = refl
+every_folded false [] = refl
+every_folded true (b ∷ bs) = every_folded b bs
+every_folded false (b ∷ bs) = every_folded false bs
 
-pub all_yes : (bs : List Bool) → list_all (λ b. b) bs ≡ every bs
-all_yes [] = refl
-all_yes (b ∷ bs) = ap (λ c. b && c) (all_yes bs)
+pub any_folded : (some : Bool) (bs : List Bool) → fold ◌||◌ some bs ≡ some || any bs
+any_folded true [] = refl
+any_folded false [] = refl
+any_folded true (b ∷ bs) = any_folded true bs
+any_folded false (b ∷ bs) = any_folded b bs
 
 -- what the code makes of the values read, for each kind
 module _ (bs : List Bool) where
-  pub made_known : {kind k : ℕ} {b : Bool} → kind ≡ k → b ≡ made k bs → b ≡ made kind bs
-  made_known e is = is ∙ ap (λ (k : ℕ). made k bs) (sym e)
+  pub carried : {kind k : ℕ} {b : Bool} → kind ≡ k → b ≡ made k bs → b ≡ made kind bs
+  carried e is = is ∙ ap (λ (k : ℕ). made k bs) (sym e)
 
   pub made_unknown : (kind : ℕ) → 9 ≤ kind → false ≡ made kind bs
   unfolding made

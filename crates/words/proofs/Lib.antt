@@ -1,3 +1,4 @@
 pub mod Counts
 pub mod Bits
 pub mod Rows
+pub mod Computed

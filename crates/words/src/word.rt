@@ -60,17 +60,19 @@ fn at(read: &[bool], i: usize) -> bool
 }
 
 // All of the values that a gate reads are 1.
+// It reads on past a 0, unlike `all`: what a net holds decides nothing of what is done next.
 fn every(read: &[bool]) -> bool
     ensures { result ≡ every read.now }
 {
-    read.iter().all(|&b| b)
+    read.iter().fold(true, |all, &b| all & b)
 }
 
 // One of them is 1, or more.
+// It reads on past a 1, unlike the slice's own `any`: what a net holds decides nothing of what is done next.
 fn any(read: &[bool]) -> bool
     ensures { result ≡ any read.now }
 {
-    read.iter().any(|&b| b)
+    read.iter().fold(false, |some, &b| some | b)
 }
 
 // What a gate of a kind makes of the values that it reads.
