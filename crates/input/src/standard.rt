@@ -41,14 +41,16 @@ pub fn fill<R: Read>(from: &mut R, buf: &mut [u8]) -> Result<usize, CutOff>
     // not a slice that shrinks: the loop's facts would have no name for the bytes that it has passed, so `bytes` could not be kept
     let mut at: usize = 0;
     while at < buf.len() {
-        let n = read_from(&mut *from, &mut *buf, at).map_err(|why| CutOff {
-            length: at as u64,
-            why,
-        })?;
-        if n == 0 {
-            break;
+        match read_from(&mut *from, &mut *buf, at) {
+            Ok(0) => break,
+            Ok(n) => at += n,
+            Err(why) => {
+                return Err(CutOff {
+                    length: at as u64,
+                    why,
+                });
+            }
         }
-        at += n;
     }
     Ok(at)
 }
@@ -67,11 +69,11 @@ fn count_rest<R: Read>(from: &mut R) -> Result<u64, CutOff>
     let mut total: u64 = 0;
     // not `io::copy` into a sink: it tries an interrupted read again, and here that is a failure
     for _ in 0..TURNS {
-        let n = from.read(&mut space).map_err(|why| CutOff { length: total, why })?;
-        if n == 0 {
-            return Ok(total);
+        match from.read(&mut space) {
+            Ok(0) => return Ok(total),
+            Ok(n) => total += n as u64,
+            Err(why) => return Err(CutOff { length: total, why }),
         }
-        total += n as u64;
     }
     Err(CutOff {
         length: total,
@@ -92,9 +94,11 @@ pub fn take_in<R: Read>(from: &mut R, buf: &mut [u8]) -> Result<u64, CutOff>
     if kept < buf.len() {
         return Ok(kept as u64);
     }
-    let rest = count_rest(from).map_err(|cut| CutOff {
-        length: kept as u64 + cut.length,
-        why: cut.why,
-    })?;
-    Ok(kept as u64 + rest)
+    match count_rest(from) {
+        Ok(rest) => Ok(kept as u64 + rest),
+        Err(cut) => Err(CutOff {
+            length: kept as u64 + cut.length,
+            why: cut.why,
+        }),
+    }
 }

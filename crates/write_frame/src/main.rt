@@ -23,7 +23,7 @@ fn fill_between<R: Read>(
         (take n (drop have order.new))) }
     ensures end { IfOk result (λ n. n ≡ 0 → have < want → IsAtEnd (R.remaining from.new)) }
 {
-    input::fill(from, &mut order[have..want])
+    Ok(input::fill(from, &mut order[have..want])?)
 }
 
 // Reads as much as one order has, or what is left of the input.

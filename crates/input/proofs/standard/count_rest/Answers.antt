@@ -4,9 +4,9 @@ use Rattle.input.proofs.standard.count_rest.Goals as goal
 
 pub loop-preserved : goal.loop-preserved
 loop-preserved g c =
-    let read = c.in_ok-n.ensures in
+    let read = c.in-Ok.ensures in
     let (rest, long, before) = c.loop.invariant.bytes in
-    let more = take c.in_ok-n.n c.read.new.buf in
+    let more = take c.in-Ok.n c.read.new.buf in
     record {
       few = omega arith;
       same = search rules;

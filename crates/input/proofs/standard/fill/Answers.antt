@@ -7,8 +7,8 @@ use Rattle.input.proofs.standard.fill.Goals as goal
 pub loop-at-preserved : goal.loop-at-preserved
 loop-at-preserved g c =
     let at = c.loop-at.at in
-    let n = c.in_ok-n.n in
-    let read = c.in_ok-n.ensures in
+    let n = c.in-Ok.n in
+    let read = c.in-Ok.ensures in
     let after = c.read_from.new.buf in
     let joined = ap (λ l. l ++ take n (drop at after)) (sym read.front) ∙ sym (take-add at n after) in
     record {
