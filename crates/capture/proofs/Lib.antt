@@ -1,3 +1,4 @@
 pub mod Bads
 pub mod Fates
 pub mod Loops
+pub mod Endings
