@@ -1,19 +1,27 @@
--- The line about a cycle, by what its payload asks for. Assumes nothing.
+-- A cycle asked for by a payload, and the line about it. Assumes nothing.
 use mathlib.Core.Bool.{Bool, true, false, cond}
-use mathlib.Core.Path.{◌≡◌, refl, sym, ap}
+use mathlib.Core.Path.{◌≡◌, refl, sym, ap, ◌∙◌}
 use mathlib.Core.List.{List}
 use Prim.Native.Nat.{ℕ}
 use native.Mathlib.Omega.{arith}
 use lib.Dec.{eqb}
 use lib.ListN.{length}
 use Rattle.std.specs.Prelude.{Option, Some, None, unwrap_or}
-use Rattle.fabric.specs.Cycle.{cycle_of}
+use Rattle.routing.proofs.Equal.{two}
+use Rattle.states.specs.declared.state.State.{State}
+use Rattle.fabric.specs.declared.cycle.Inputs.{Inputs}
+use Rattle.fabric.specs.Cycle.{machine, cycle_of}
 use Rattle.engine.specs.Cycle.{without_report}
-use Rattle.places.specs.Capture.{inputs_in}
-use Rattle.image.specs.Image.{machine_from}
+use Rattle.records.specs.Record.{inputs_from}
+use Rattle.places.specs.Capture.{record_at, inputs_in}
+use Rattle.image.specs.Image.{state_from, rows_from, machine_from}
 use Rattle.parts.specs.Parts.{malformed}
 use Rattle.call_cycle.specs.declared.cycle.Asked.{Asked}
-use Rattle.call_cycle.specs.Cycle.{gates_text, plain_text, asked_in, cycle_line}
+use Rattle.call_cycle.specs.Cycle.{gates_text, plain_text, asked, asked_in, cycle_line}
+
+pub asked_by : (payload : List ℕ) {s : State} {rows : List (List ℕ)} {r : List ℕ} {i : Inputs}
+    → s ≡ state_from payload → rows ≡ rows_from payload → r ≡ record_at payload 5 → i ≡ inputs_from r → cycle_of (machine s rows) i ≡ asked payload
+asked_by payload es er e i = two cycle_of (two machine es er) (i ∙ ap inputs_from e)
 
 abbrev answers : Option Asked → ℕ
 answers (Some a) = 1

@@ -1,11 +1,11 @@
 -- A frame or a cell asked for by a payload. Assumes nothing.
-use mathlib.Core.Bool.{true}
+use mathlib.Core.Bool.{true, false}
 use mathlib.Core.Path.{◌≡◌, ap, ◌∙◌}
 use mathlib.Core.List.{List}
-use Prim.Native.Nat.{ℕ, ◌-◌, ◌≤◌}
+use Prim.Native.Nat.{ℕ, ◌-◌, ◌<◌, ◌≤◌}
 use lib.Dec.{eqb, leb}
 use lib.ListN.{length, take, drop}
-use borrow.Author.Tests.{leb-true}
+use borrow.Author.Tests.{le-leb, lt-leb, leb-true}
 use Rattle.text.proofs.Lists.{part_all}
 use Rattle.routing.proofs.Equal.{two}
 use Rattle.routing.proofs.Fours.{and_left}
@@ -17,6 +17,12 @@ use Rattle.orders.specs.Order.{order_size, plan_of}
 use Rattle.call_frames.specs.Calls.{asks_frame, write_text, read_text}
 
 module _ (payload : List ℕ) where
+  pub too_short : length payload < 4 → false ≡ asks_frame payload
+  too_short h = rw (lt-leb _ _ h)
+
+  pub long_enough : 4 ≤ length payload → {size : ℕ} → size ≡ order_size (take (length payload - 4) (drop 4 payload)) → eqb size (length payload - 4) ≡ asks_frame payload
+  long_enough h e = ap (λ (n : ℕ). eqb n (length payload - 4)) (e ∙ ap order_size (part_all 4 payload)) ∙ rw (le-leb _ _ h)
+
   pub has_room_bytes : asks_frame payload ≡ true → 4 ≤ length payload
   has_room_bytes e = leb-true _ _ (and_left (leb 4 (length payload)) (eqb (order_size (drop 4 payload)) (length payload - 4)) e)
 

@@ -1,11 +1,12 @@
 -- What is said of an input, call by call. Assumes nothing.
-use Rattle.std.proofs.Common.{◌≡◌, ℕ, zero, suc, ◌+◌, ◌≤◌, true, false, List, [], ◌++◌, length, take, Option, Some, None, Ok, Err, refl, sym, ap, ◌∙◌, arith}
+use Rattle.std.proofs.Common.{◌≡◌, ℕ, zero, suc, ◌+◌, ◌-◌, ◌≤◌, true, false, List, [], ◌++◌, length, take, Option, Some, None, Ok, Err, refl, sym, ap, ◌∙◌, arith}
 use native.Mathlib.Numerals.{add-one}
 use lib.ListN.{length-replicate}
 use Rattle.text.specs.declared.page.Page.{Page}
 use Rattle.text.specs.Page.{Blank, Put, seen, page}
 use Rattle.text.proofs.Pages.{◌then◌, spelt}
 use Rattle.text.proofs.Room.{onto, all_there}
+use Rattle.routing.proofs.Equal.{two}
 use Rattle.states.specs.declared.refusal.Refusal.{Refusal}
 use Rattle.states.specs.Refusal.{number_in}
 use Rattle.states.proofs.Refusals.{never_0}
@@ -13,17 +14,21 @@ use Rattle.places.specs.Capture.{records}
 use Rattle.listing.specs.Listing.{listing}
 use Rattle.listing.specs.Refusal.{refusal_line}
 use Rattle.comparison.specs.declared.both.Both.{Both}
-use Rattle.comparison.specs.Both.{zeros, told, place_in}
+use Rattle.comparison.specs.Both.{zeros, kept, told, place_in}
 use Rattle.verdict.specs.Verdict.{outcome_text, unless_differ, verdict_of, verdict_text}
 use Rattle.verdict.specs.Printed.{printed_by}
 use Rattle.verdict.proofs.Verdicts.{done_text, refused_text_lem}
 use Rattle.heads.specs.Shown.{head_text}
 use Rattle.heads.proofs.Shows.{at_most}
-use Rattle.due.specs.Texts.{ends_inside}
+use Rattle.due.specs.Texts.{capture_in, ends_inside}
 use Rattle.readings.specs.Lines.{line_of, four_lines}
 use Rattle.readings.specs.declared.refusal.Refusal as Short
 use Rattle.readings.specs.declared.refusal.Refusal.TheVariants.{CutShort}
-use Rattle.readings.specs.ReadBack.{number_of, read_with}
+use Rattle.readings.specs.ReadBack.{number_of, capture_kept, read_with}
+
+-- what stands for the capture, by how many bytes the texts take and how many are left
+pub captured : (bytes rest : List ℕ) (total size n : ℕ) → rest ≡ capture_in bytes → size ≡ length bytes - length rest → n ≡ total - size → kept rest n ≡ capture_kept bytes total
+captured bytes rest total size n er es en = two kept er (en ∙ ap (λ (s : ℕ). total - s) (es ∙ ap (λ (l : List ℕ). length bytes - length l) er))
 
 -- a head's bytes have room in the space that is lent for them
 pub collected : (answers : List ℕ) (h : ℕ) {p q : Page} → records answers ≤ 12289 → Blank (zeros 12289) p → Put p (head_text answers h) q
