@@ -1,5 +1,5 @@
 -- The replay of a capture: the run of its records, from any machine handed in.
-use Rattle.std.specs.Prelude.{◌≡◌, List, ◌++◌, ℕ, ◌*◌, length, drop, Result, Ok, Err}
+use Rattle.std.specs.Prelude.{List, ◌++◌, ℕ, ◌*◌, length, drop, Result, Ok, Err, ◌≡◌}
 use Rattle.fabric.specs.Cycle.{Machine}
 use Rattle.fabric.specs.Run.{run_of}
 use Rattle.records.specs.Answers.{answers_of}

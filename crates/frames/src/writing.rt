@@ -16,11 +16,7 @@ use text::Page;
 fn sent(first: usize, cell: &[u8], k: usize) -> u8
     ensures { result ≡ sent_of first cell.now k }
 {
-    // no number for what may not be there: with one the frame's loop is half as long again
-    if k < first {
-        return 0;
-    }
-    image::byte_at(cell, k - first)
+    k.checked_sub(first).map_or(0, |j| image::byte_at(cell, j))
 }
 
 fn record_in(plan: &Plan, k: usize) -> [u8; 5]
