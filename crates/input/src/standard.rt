@@ -1,5 +1,6 @@
 // Reading until a buffer is full or the input ends, and counting what comes after it.
 ghost use Rattle.std.specs.Prelude.{◌≡◌, ◌+◌, ◌^◌, ◌<◌, ◌≤◌, ℕ, List, length, take, drop, IfOk, IfErr, IfSome, OnOk, OnErr};
+ghost use Rattle.std.specs.Io.{ReadsAtMost};
 ghost use Rattle.std.specs.Io.KnownBytes.{Consumes, Keeps, IsAtEnd};
 
 use std::io::{self, Error, ErrorKind, Read};
@@ -31,7 +32,7 @@ fn read_from<R: Read>(from: &mut R, buf: &mut [u8], at: usize) -> io::Result<usi
 
 // Reads until the buffer is full or the input ends, and answers how many bytes stand at its start. What was read before a failure stands there too.
 pub fn fill<R: Read>(from: &mut R, buf: &mut [u8]) -> Result<usize, CutOff>
-    ensures bound { IfOk result (λ n. n ≤ length buf.new) }
+    ensures bound { ReadsAtMost result buf.new }
     ensures bytes { IfOk result (λ n. Consumes (R.remaining from.old) (R.remaining from.new)
         (take n buf.new)) }
     ensures end { IfOk result (λ n. n < length buf.new → IsAtEnd (R.remaining from.new)) }

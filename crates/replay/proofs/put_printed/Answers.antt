@@ -36,12 +36,12 @@ returns-clause-writes g c =
     let taken = c.in_ok-total.ensures in of_reader _ c.take_in.new.buf _ (search rules) taken.total taken.kept c.replay_by_both.ensures.writes
 
 -- what was put onto an empty page that has room for it stands there whole
-stands_whole : (known : Option (List ℕ)) {before after : Page} → before.place ≡ 0 → 262144 ≤ length before.bytes.now
+stands_whole : (known : Option (List ℕ)) (before after : Page) → before.place ≡ 0 → 262144 ≤ length before.bytes.now
     → IfSome known (λ capture. Put before (printed capture) after) → IfSome known (λ capture. take after.place after.bytes.now ≡ printed capture)
-stands_whole None empty room w = tt
-stands_whole (Some capture) {before = before} {after = after} empty room w =
+stands_whole None before after empty room w = tt
+stands_whole (Some capture) before after empty room w =
     let wrote : Wrote (page before.bytes.now 0) (printed capture) (page after.bytes.now after.place) = rw empty at w.wrote in
     (all_printed capture before.bytes.now after.bytes.now after.place room wrote).1
 
 pub returns-clause-whole : goal.returns-clause-whole
-returns-clause-whole g c = stands_whole _ c.requires.0 c.requires.1 (returns-clause-writes g c)
+returns-clause-whole g c = stands_whole _ _ _ c.requires.0 c.requires.1 (returns-clause-writes g c)
