@@ -9,8 +9,8 @@ use lib.ListN.{length, length-append}
 use borrow.Author.Tests.{lt-ltb, le-ltb}
 use Rattle.routing.proofs.Equal.{row_of}
 use Rattle.text.specs.declared.page.Page.{Page as Sheet}
-use Rattle.text.specs.Page.{Put}
-use Rattle.text.proofs.Pages.{◌then◌, spelt, nothing}
+use Rattle.text.specs.Page.{Page, Put, Wrote}
+use Rattle.text.proofs.Pages.{◌then◌, spelt, nothing, both, other_words, nothing_any_page}
 use Rattle.records.specs.Record.{byte_at, record_of}
 use Rattle.plans.specs.Plan.{Plan, sent_of, sends, inputs_of}
 use Rattle.frames.specs.Writing.{records_of}
@@ -36,6 +36,16 @@ module _ (p : Plan) where
   unfolding records_of
   one_more k so_far e next =
       spelt (so_far then next) (ap (λ (l : List ℕ). records_of p k ++ l) e ∙ ap (records_of p) (sym (add-one k)))
+
+  -- the same of any page, the code's or not
+  pub none_yet_any_page : (q : Page) → Wrote q (records_of p 0) q
+  unfolding records_of
+  none_yet_any_page q = nothing_any_page q
+
+  pub one_more_any_page : (k : ℕ) {q r s : Page} {five : List ℕ} → Wrote q (records_of p k) r → five ≡ record_of (inputs_of p k) → Wrote r five s → Wrote q (records_of p (k + 1)) s
+  unfolding records_of
+  one_more_any_page k so_far e next =
+      other_words (both so_far next) (ap (λ (l : List ℕ). records_of p k ++ l) e ∙ ap (records_of p) (sym (add-one k)))
 
   pub records_length : (n : ℕ) → length (records_of p n) ≡ 5 * n
   unfolding records_of

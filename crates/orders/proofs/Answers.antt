@@ -30,6 +30,11 @@ module _ (order : List ℕ) (k : ℕ) (buffer : List ℕ) where
   unfolding answer_to puts
   none_left z = says (as_line []) (rw (eq-eqb _ _ z)) (record { left = refl })
 
+  -- and on every page on which nothing more was put
+  pub none_left_any_page : {q : Page} → length order ≡ 0 → Wrote (page buffer 0) [] q → Says false q
+  unfolding answer_to
+  none_left_any_page z put = says (as_line []) (rw (eq-eqb _ _ z)) put
+
   module _ (some : length order ≡ 0 → ⊥) {size : ℕ} (is : size ≡ order_size order) where
     pub cut : {q : Page} → length order < size → Wrote (page buffer 0) (line_about (ascii "cut short") k) q → Says false q
     unfolding answer_to

@@ -3,7 +3,7 @@ use Rattle.std.proofs.Common.{◌≡◌, ℕ, zero, suc, ◌+◌, ◌-◌, ◌�
 use native.Mathlib.Numerals.{add-one}
 use lib.ListN.{length-replicate}
 use Rattle.text.specs.declared.page.Page.{Page}
-use Rattle.text.specs.Page.{Blank, Put, seen, page}
+use Rattle.text.specs.Page.{Blank, Put, Wrote, seen, page}
 use Rattle.text.proofs.Pages.{◌then◌, spelt}
 use Rattle.text.proofs.Room.{onto, all_there}
 use Rattle.routing.proofs.Equal.{two}
@@ -35,6 +35,11 @@ pub collected : (answers : List ℕ) (h : ℕ) {p q : Page} → records answers 
     → take q.place q.bytes.now ≡ head_text answers h
 collected answers h few blank w =
     let room : length (zeros 12289) ≡ 12289 = length-replicate {A = ℕ} 12289 0 in (all_there (onto blank w) (omega (arith, few, room, at_most answers h))).1
+
+-- the same of any page, the code's or not, and how many bytes these are
+pub collected_any_page : (answers : List ℕ) (h : ℕ) {space after : List ℕ} {n : ℕ} → records answers ≤ 12289 → 12289 ≡ length space → Wrote (page space 0) (head_text answers h) (page after n)
+    → (n ≡ length (head_text answers h)) × (take n after ≡ head_text answers h)
+collected_any_page answers h few room w = all_there w (omega (arith, few, room, at_most answers h))
 
 -- the lines of the first heads
 unfoldable pub first_lines : List ℕ → List ℕ → ℕ → List ℕ

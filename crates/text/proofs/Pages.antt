@@ -62,6 +62,25 @@ pub ended : {p q : Sheet} {all left : List ℕ} → Ahead p all q left → left 
 unfolding puts
 ended {q = q} a e = record { wrote = record { left = sym (a.same_text ∙ ap (puts (seen q)) e) }; same = a.same }
 
+-- The same of any page, the code's or not.
+pub nothing_any_page : (p : Page) → Wrote p [] p
+unfolding puts
+nothing_any_page p = record { left = refl }
+
+pub record AheadAnyPage (p : Page) (all : List ℕ) (q : Page) (left : List ℕ) : Type 0 where
+  pub same : puts p all ≡ puts q left
+
+pub begun_any_page : {p : Page} {all left : List ℕ} → all ≡ left → AheadAnyPage p all p left
+begun_any_page {p = p} e = record { same = ap (puts p) e }
+
+pub went_on_any_page : {p q r : Page} {all left part rest : List ℕ} → AheadAnyPage p all q left → left ≡ part ++ rest → Wrote q part r → AheadAnyPage p all r rest
+went_on_any_page {q = q} {part = part} {rest = rest} a cut w =
+    record { same = a.same ∙ ap (puts q) cut ∙ sym (puts_both q part rest) ∙ ap (λ (x : Page). puts x rest) (sym w.left) }
+
+pub ended_any_page : {p q : Page} {all left : List ℕ} → AheadAnyPage p all q left → left ≡ [] → Wrote p all q
+unfolding puts
+ended_any_page {q = q} a e = record { left = sym (a.same ∙ ap (puts q) e) }
+
 pub next_byte : (text : List ℕ) (i : ℕ) → i < length text → drop i text ≡ (get_or text i 0 ∷ []) ++ drop (i + 1) text
 next_byte text i h = drop-cons text i 0 h ∙ ap (λ (j : ℕ). get_or text i 0 ∷ drop j text) (sym (add-one i))
 

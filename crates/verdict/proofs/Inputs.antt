@@ -3,8 +3,8 @@ use Rattle.std.proofs.Common.{◌≡◌, ℕ, ◌≤◌, Bool, true, List, lengt
 use Rattle.std.proofs.lemmas.List.{take-replicate}
 use lib.ListN.{length-replicate}
 use Rattle.text.specs.declared.page.Page.{Page}
-use Rattle.text.specs.Page.{Put}
-use Rattle.text.proofs.Pages.{spelt}
+use Rattle.text.specs.Page.{Put, Wrote, Page as AnyPage}
+use Rattle.text.proofs.Pages.{spelt, other_words}
 use Rattle.fabric.specs.Run.{reset_machine}
 use Rattle.capture.specs.Replay.{replay_of, replay_writes}
 use Rattle.comparison.specs.Both.{zeros, both_of}
@@ -30,11 +30,22 @@ module _ (said : List ℕ → List ℕ) where
         ∙ ap (λ (n : ℕ). outcome_text said (replay_of reset_machine capture n).number (replay_of reset_machine capture n).index (replay_writes reset_machine capture z)) long
         ∙ ap (λ (l : List ℕ). outcome_text said (replay_of reset_machine capture (length capture)).number (replay_of reset_machine capture (length capture)).index (replay_writes reset_machine capture l)) e
 
+  module _ (capture plain gates whole : List ℕ) (ep : plain ≡ zeros (length capture)) (eg : gates ≡ zeros (length capture)) (ew : capture ≡ whole) where
+    both_told : is_none (both_of capture plain gates).difference ≡ true
+    both_told = ap (λ (g : List ℕ). is_none (both_of capture plain g).difference) (eg ∙ sym ep) ∙ both_same capture plain ep
+
+    both_words : verdict_of said (both_of capture plain gates) (replay_writes reset_machine capture plain) ≡ printed_by said whole
+    both_words =
+        ap (λ (g : List ℕ). verdict_of said (both_of capture plain g) (replay_writes reset_machine capture plain)) (eg ∙ sym ep) ∙ both_text capture plain ep ∙ ap (printed_by said) ew
+
   pub both_said : (capture plain gates whole : List ℕ) {agreed : Bool} {before after : Page} → plain ≡ zeros (length capture) → gates ≡ zeros (length capture) → capture ≡ whole
       → (agreed ≡ is_none (both_of capture plain gates).difference) × Put before (verdict_of said (both_of capture plain gates) (replay_writes reset_machine capture plain)) after
       → (agreed ≡ true) × Put before (printed_by said whole) after
-  both_said capture plain gates whole ep eg ew w =
-      let same : gates ≡ plain = eg ∙ sym ep in (
-        w.0 ∙ ap (λ (g : List ℕ). is_none (both_of capture plain g).difference) same ∙ both_same capture plain ep,
-        spelt w.1 (ap (λ (g : List ℕ). verdict_of said (both_of capture plain g) (replay_writes reset_machine capture plain)) same ∙ both_text capture plain ep ∙ ap (printed_by said) ew),
-      )
+  both_said capture plain gates whole ep eg ew w = (w.0 ∙ both_told capture plain gates whole ep eg ew, spelt w.1 (both_words capture plain gates whole ep eg ew))
+
+  -- the same of any page, the code's or not
+  pub both_said_any_page : (capture plain gates whole : List ℕ) {agreed : Bool} {before after : AnyPage} → plain ≡ zeros (length capture) → gates ≡ zeros (length capture) → capture ≡ whole
+      → (agreed ≡ is_none (both_of capture plain gates).difference) × Wrote before (verdict_of said (both_of capture plain gates) (replay_writes reset_machine capture plain)) after
+      → (agreed ≡ true) × Wrote before (printed_by said whole) after
+  both_said_any_page capture plain gates whole ep eg ew w =
+      (w.0 ∙ both_told capture plain gates whole ep eg ew, other_words w.1 (both_words capture plain gates whole ep eg ew))

@@ -1,9 +1,9 @@
 -- What is said of two replays. Assumes nothing.
-use Rattle.std.proofs.Common.{◌≡◌, ℕ, List, Option, Result, Ok, Err, sym, ap, ◌∙◌}
+use Rattle.std.proofs.Common.{◌≡◌, ℕ, Bool, List, Option, is_none, Result, Ok, Err, sym, ap, ◌∙◌}
 use borrow.Author.Tests.{eq-eqb, ne_eqb}
 use Rattle.text.specs.declared.page.Page.{Page}
-use Rattle.text.specs.Page.{Put}
-use Rattle.text.proofs.Pages.{spelt}
+use Rattle.text.specs.Page.{Put, Wrote, Page as AnyPage}
+use Rattle.text.proofs.Pages.{spelt, other_words}
 use Rattle.routing.proofs.Equal.{two}
 use Rattle.states.specs.declared.refusal.Refusal.{Refusal}
 use Rattle.states.specs.Refusal.{number_of, index_of, number_in}
@@ -38,3 +38,9 @@ module _ (said : List ℕ → List ℕ) where
   -- the same is said of equal replays
   pub said_of : {b b' : Both} {x x' : List ℕ} {before after : Page} → b ≡ b' → x ≡ x' → Put before (verdict_of said b x) after → Put before (verdict_of said b' x') after
   said_of eb ex w = spelt w (two (verdict_of said) eb ex)
+
+  -- the same of any page, the code's or not, with what is told of the two replays
+  pub said_of_any_page : {b b' : Both} {x x' : List ℕ} {agreed : Bool} {before after : AnyPage} → b ≡ b' → x ≡ x'
+      → (agreed ≡ is_none b.difference) × Wrote before (verdict_of said b x) after
+      → (agreed ≡ is_none b'.difference) × Wrote before (verdict_of said b' x') after
+  said_of_any_page eb ex w = (w.0 ∙ ap (λ (y : Both). is_none y.difference) eb, other_words w.1 (two (verdict_of said) eb ex))
