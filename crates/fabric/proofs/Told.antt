@@ -1,12 +1,10 @@
 -- A single cycle's answer can be told from what document 01 says of it. Assumes nothing.
 use mathlib.Core.Bool.{Bool, true, false, cond}
 use mathlib.Core.Path.{◌≡◌, refl, sym, ap, ◌∙◌}
-use mathlib.Core.List.{List}
 use Prim.Native.Nat.{ℕ}
 use lib.Dec.{eqb}
 use borrow.Author.Tests.{eqb-true}
 use Rattle.std.specs.Prelude.{Result, Ok, Err}
-use Rattle.routing.specs.declared.route.Report.{Report}
 use Rattle.routing.proofs.Equal.{two}
 use Rattle.states.specs.declared.state.Machine.{Machine}
 use Rattle.states.specs.declared.state.Refused.{Refused}
@@ -16,7 +14,6 @@ use Rattle.states.specs.Refusal.{number_of}
 use Rattle.states.proofs.States.{not_3}
 use Rattle.states.proofs.Refusals.{never_0, same_refusal}
 use Rattle.fabric.specs.declared.cycle.Inputs.{Inputs}
-use Rattle.fabric.specs.declared.cycle.Moved.{Moved}
 use Rattle.fabric.specs.declared.cycle.Cycled.{Cycled}
 use Rattle.fabric.specs.Cycle.{CycleAnswer, done_cycle, refused_cycle, step_of, cycle_of, cycle_answer, CycleSettles}
 

@@ -6,7 +6,6 @@ use lib.Dec.{eqb}
 use Rattle.std.proofs.Common.{cond, Option, Some, None, Result, Ok, Err}
 use Rattle.states.specs.declared.refusal.Refusal.{Refusal}
 use Rattle.states.specs.declared.refusal.Refusal.TheVariants.{CaptureCut, AnswersTooShort, SpareBitSet, TooManyRecords, SavedLength, SavedZerosSet, OpenWhileWaiting, HeldTwice, SavingTooShort, HolderAbove}
-use Rattle.states.specs.State.{state_refusal}
 use Rattle.states.specs.Refusal.{number_of, index_of, number_in, NumbersTell, CheckSettles}
 use Rattle.states.proofs.States.{not_3}
 
