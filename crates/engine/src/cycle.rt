@@ -70,7 +70,8 @@ fn step(s: State, rows: [[u8; 4]; 4], i: Inputs) -> Moved
     }
 }
 
-// The gates as an engine. Beside the law of every engine its cycle is promised over the gate words, so that one that evaluates none is refused.
+// The gates as an engine. Beside the law of every engine its cycle is promised over the gate words, of every state, so that one that goes by the
+// rules instead is refused.
 #[derive(Clone, Copy)]
 pub struct Gates;
 

@@ -13,7 +13,9 @@ pub struct CutOff {
 }
 
 impl From<CutOff> for Error {
-    fn from(cut: CutOff) -> Error {
+    fn from(cut: CutOff) -> Error
+        ensures { result ≡ cut.why }
+    {
         cut.why
     }
 }
