@@ -7,6 +7,8 @@ ghost use Rattle.readings.specs.Lines.{line_of, four_lines};
 use routing::Output;
 use text::Page;
 
+// never a part of its caller, which would then need the stack for `space` where nothing is compared
+#[inline(never)]
 fn put_head(page: &mut Page, head: Output, input: &[u8], answers: &[u8])
     requires { records answers.now ≤ 12289 }
     ensures { Put page.old (line_of input.now answers.now head.0) page.new }
