@@ -66,7 +66,8 @@ fn count_rest<R: Read>(from: &mut R) -> Result<u64, CutOff>
     ensures bytes { IfOk result (λ n. (rest : List ℕ) × (length rest ≡ n)
         × Consumes (R.remaining from.old) (R.remaining from.new) rest) }
     ensures end { OnOk result (IsAtEnd (R.remaining from.new)) }
-    ensures err { IfErr result (λ cut. cut.length ≤ 2 ^ 63) }
+    ensures err { IfErr result (λ cut. (cut.length ≤ 2 ^ 63) × ((rest : List ℕ) × (length rest ≡ cut.length)
+        × Consumes (R.remaining from.old) (R.remaining from.new) rest)) }
 {
     let mut space = [0u8; 65536];
     let mut total: u64 = 0;
@@ -91,7 +92,8 @@ pub fn take_in<R: Read>(from: &mut R, buf: &mut [u8]) -> Result<u64, CutOff>
     ensures kept { IfOk result (λ n. IfSome (R.remaining from.old)
         (λ all. take n buf.new ≡ take (length buf.new) all)) }
     ensures end { OnOk result (IsAtEnd (R.remaining from.new)) }
-    ensures err { IfErr result (λ cut. cut.length ≤ length buf.old + 2 ^ 63) }
+    ensures err { IfErr result (λ cut. (cut.length ≤ length buf.old + 2 ^ 63) × ((come : List ℕ) × (length come ≡ cut.length)
+        × Consumes (R.remaining from.old) (R.remaining from.new) come)) }
 {
     let kept = fill(&mut *from, &mut *buf)?;
     if kept < buf.len() {
