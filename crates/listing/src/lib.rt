@@ -8,4 +8,4 @@ mod lines;
 mod refusal;
 
 pub use lines::{put_heading, put_line, put_listing};
-pub use refusal::put_refusal;
+pub use refusal::{put_refusal, put_refusal_any_index};

@@ -1,9 +1,7 @@
 use Rattle.std.proofs.Common.{ap}
-use Rattle.text.specs.Digits.{decimal}
-use Rattle.text.proofs.Pages.{◌then◌, spelt}
-use Rattle.listing.specs.Refusal.{index_text}
+use Rattle.text.proofs.Pages.{spelt}
+use Rattle.listing.specs.Refusal.{refusal_line_any_index}
 use Rattle.listing.proofs.refusal.put_refusal.Goals as goal
 
 pub returns : goal.returns
-returns c =
-    c.put_text.ensures then spelt c.put_decimal.ensures (ap decimal c.from.ensures) then spelt c.put_index.ensures (ap index_text c.given.ensures) then c.put_byte.ensures
+returns c = spelt c.put_refusal_any_index.ensures (ap (refusal_line_any_index c.args.number) c.given.ensures)
