@@ -11,7 +11,7 @@ use borrow.Author.Tests.{eqb-true, eqb-false}
 use Rattle.text.specs.Digits.{decimal_in}
 use Rattle.fabric.specs.Run.{reset_machine}
 use Rattle.capture.specs.Replay.{replay_of}
-use Rattle.listing.specs.Refusal.{refusal_line}
+use Rattle.listing.specs.Refusal.{refusal_line, refusal_line_any_index, given as printed}
 use Rattle.comparison.specs.Both.{index_given}
 use Rattle.verdict.specs.Printed.{printed_by}
 use Rattle.verdict.proofs.Verdicts.{done_text, refused_text_lem}
@@ -24,8 +24,8 @@ use Rattle.readings.specs.ReadBack.{read_back}
 use Rattle.meaning.specs.ReadBacks.{four_same, answers_to, CameThrough, FourSame}
 use Rattle.readings.proofs.Saids.{cut_short, not_cut_short}
 
--- a refusal line is none of the lines that a read-back begins with
-no_refusal : (number : ℕ) (index : Option ℕ) → refusal_line number index ≡ four_same → ⊥
+-- a refusal line, with whatever index, is none of the lines that a read-back begins with
+no_refusal : (number : ℕ) (index : Option ℕ) → refusal_line_any_index number index ≡ four_same → ⊥
 unfolding decimal_in
 no_refusal number index e =
     let first : ◌≡◌ {A = ℕ} 114 48 = ap (λ (l : List ℕ). get_or l 0 0) e in omega (arith, first)
@@ -97,7 +97,7 @@ module _ (input : List ℕ) where
       let done : number ≡ 0 = eqb-true _ _ ez in
       record { texts = et; done = done; shown = all_same input (answers_to capture) (lines_printed done ∙ not_cut_short input capture et ∙ e) }
   through false false et ez e =
-      absurd (no_refusal number given (refusal_printed (eqb-false _ _ ez) ∙ not_cut_short input capture et ∙ e))
+      absurd (no_refusal number (printed number given) (refusal_printed (eqb-false _ _ ez) ∙ not_cut_short input capture et ∙ e))
 
 pub four_same_lem : FourSame
 four_same_lem input = (
